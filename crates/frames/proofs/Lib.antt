@@ -1,0 +1,7 @@
+-- Lemmas of this crate. Assumes nothing.
+pub mod FirstFault
+pub mod Reading
+pub mod WordSteps
+pub mod SettingsLaws
+pub mod LineLaws
+pub mod Spelling

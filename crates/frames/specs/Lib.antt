@@ -1,0 +1,10 @@
+-- What the contracts of this crate cite. Assumes nothing.
+pub mod Faults
+pub mod Checks
+pub mod Units
+pub mod Words
+pub mod SettingsUnit
+pub mod NumbersUnit
+pub mod Hex
+pub mod MemberNames
+pub mod Stops
