@@ -106,3 +106,9 @@ Between line held cs pending = Remains line held (reading cs pending) × Cases p
 
 pub between-same : (line : Line) (held held′ cs : List ℕ) (p p′ : Option ℕ) → held′ ≡ held → p′ ≡ p → Between line held cs p → Between line held′ cs p′
 between-same line held held′ cs p p′ e f b = subst (λ h. Between line h cs p′) (sym e) (subst (Between line held cs) (sym f) b)
+
+-- a value of a line is the value that was read of its bytes
+pub was-read : {X E : Type 0} (f : E) (e : Ending) (answer : Result X E) (v : X) → Ok v ≡ settled f e answer → answer ≡ Ok v
+was-read f Whole answer v q = sym q
+was-read f Damaged (Ok x) v q = cc
+was-read f Damaged (Err y) v q = cc

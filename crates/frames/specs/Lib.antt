@@ -3,8 +3,12 @@ pub mod Faults
 pub mod Checks
 pub mod Units
 pub mod Words
+pub mod Sum
 pub mod SettingsUnit
 pub mod NumbersUnit
+pub mod FrameUnit
+pub mod OrderUnit
+pub mod PostUnit
 pub mod Hex
 pub mod MemberNames
 pub mod Stops

@@ -134,16 +134,16 @@ mover-rests r g s w zero l c d =
     u (sym a ∙ (h ∙ (b ∙ sym f)))
 mover-rests r g s w (suc i) l c d = may-other r (moved r s (suc i)) i d (settled r s w i l)
 
--- a move of member i changes who may at i and at the one after i, and nowhere else
-pub others-keep : (r : Ring) (s : State) (i j : ℕ) → i < r .members → j < r .members → j ≢ i → j ≢ after r i → may r (moved r s i) j ≡ may r s j
+-- another number of member i changes who may at i and at the one after i, and nowhere else
+pub others-keep : (r : Ring) (s : State) (i v j : ℕ) → i < r .members → j < r .members → j ≢ i → j ≢ after r i → may r (set s i v) j ≡ may r s j
 unfolding may
-others-keep r s i zero l m d f =
+others-keep r s i v zero l m d f =
     let e : suc (last r) ≡ r .members = suc-last r m in
     let n : last r ≢ i = grind (arith, tells) in
-    rw (getD-set-other s i 0 (next r s i) 0 d, getD-set-other s i (last r) (next r s i) 0 n)
-others-keep r s i (suc j) l m d f =
+    rw (getD-set-other s i 0 v 0 d, getD-set-other s i (last r) v 0 n)
+others-keep r s i v (suc j) l m d f =
     let n : j ≢ i = grind (arith, tells) in
-    rw (getD-set-other s i (suc j) (next r s i) 0 d, getD-set-other s i j (next r s i) 0 n)
+    rw (getD-set-other s i (suc j) v 0 d, getD-set-other s i j v 0 n)
 
 pub stays : Stays
 stays r g s w h i l c =
@@ -155,7 +155,7 @@ stays r g s w h i l c =
       | inl e ↦ e
       | inr d ↦
           let m : o .0 ≢ i = λ e. mover-rests r g s w i l c (rw e at (o .2)) in
-          let k : may r (moved r s i) (o .0) ≡ may r s (o .0) = others-keep r s i (o .0) l (o .1) m d in
+          let k : may r (moved r s i) (o .0) ≡ may r s (o .0) = others-keep r s i (next r s i) (o .0) l (o .1) m d in
           absurd (m (only r s h (o .0) i (o .1) l (rw k at (o .2)) c))
     ] in
     (omega arith, rw t at (o .2))
