@@ -68,8 +68,8 @@ pub impl From<io::Error> for Stop as StopFromIo {
     }
 }
 
-// Reads the next line that isn't passed over into `bytes`, and says how it ended; `None` at the end of the input.
-pub fn next_unit<R: BufRead>(input: &mut R, bytes: &mut Vec<u8>) -> Result<Option<Ending>, Stop>
+// Reads the next line that isn't passed over into `bytes`, and says how it ended; `None` at the end of the input. `lines` counts the lines that were read.
+pub fn next_unit<R: BufRead>(input: &mut R, bytes: &mut Vec<u8>, lines: &mut u64) -> Result<Option<Ending>, Stop>
     ensures { λ r. ⌜ made r (λ o. found o (λ e. isBlank record { bytes = vec-items (now (bytes .exit)); ending = e } ≡ false)) ⌝ }
 {
     let mut text = Vec::new(bytes.allocator());
@@ -78,6 +78,7 @@ pub fn next_unit<R: BufRead>(input: &mut R, bytes: &mut Vec<u8>) -> Result<Optio
         if input.read_until(b'\n', &mut text)? == 0 {
             return Ok(None);
         }
+        *lines = lines.saturating_add(1);
         if text.last() == Some(&b'\n') {
             let _ = text.pop();
         }

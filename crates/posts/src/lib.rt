@@ -20,4 +20,5 @@ pub use memory::MemoryPartialEq;
 pub use post::Post;
 pub use post::PostDebug;
 pub use post::PostPartialEq;
+pub use rule::in_range;
 pub use told::Told;

@@ -8,7 +8,7 @@ use crate::Memory;
 use turns::Turn;
 
 // The number that `number` counts as.
-pub(crate) fn in_range(number: u16, k: u16) -> u16
+pub fn in_range(number: u16, k: u16) -> u16
     ensures { λ r. ⌜ r ≡ norm k number ⌝ }
 {
     if number < k { number } else { 0 }
