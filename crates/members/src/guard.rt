@@ -12,14 +12,13 @@ use crate::refusal::Refusal;
 
 // One more than `own`, and 0 after `k` - 1.
 pub(crate) fn one_up(own: u16, k: u16) -> u16
-    requires { ⌜ own < k ⌝ }
     ensures { λ r. ⌜ r ≡ up k own ⌝ }
 {
-    if own < k - 1 { own + 1 } else { 0 }
+    if own < k.saturating_sub(1) { own + 1 } else { 0 }
 }
 
 // The guard of member `i`, by its own number and that of the one before.
-pub(crate) fn guard_holds(i: usize, before: u16, own: u16) -> bool
+pub fn guard_holds(i: usize, before: u16, own: u16) -> bool
     ensures { λ r. ⌜ r ≡ mayBy i before own ⌝ }
 {
     match i {
@@ -29,8 +28,7 @@ pub(crate) fn guard_holds(i: usize, before: u16, own: u16) -> bool
 }
 
 // The number that member `i` takes, by its own number and that of the one before.
-fn number_taken(i: usize, before: u16, own: u16, k: u16) -> u16
-    requires { ⌜ own < k ⌝ }
+pub fn number_taken(i: usize, before: u16, own: u16, k: u16) -> u16
     ensures { λ r. ⌜ r ≡ nextBy k i before own ⌝ }
 {
     match i {

@@ -9,9 +9,11 @@ mod refusal;
 mod tests;
 mod token;
 
+pub use guard::guard_holds;
 pub use guard::make_move;
 pub use guard::may_move;
 pub use guard::next_number;
+pub use guard::number_taken;
 pub use holders::Holders;
 pub use potential::most_moves;
 pub use potential::most_moves_of;

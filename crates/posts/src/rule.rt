@@ -5,6 +5,8 @@ ghost use Rattle.members.specs.Answers.{mayBy, nextBy};
 ghost use Rattle.posts.specs.Rule.{norm, mayMove, deedsOf, begun, speakIf, moveIf, sendIf, tickDoing, heardFrom};
 use crate::Deeds;
 use crate::Memory;
+use members::guard_holds;
+use members::number_taken;
 use turns::Turn;
 
 // The number that `number` counts as.
@@ -14,35 +16,11 @@ pub fn in_range(number: u16, k: u16) -> u16
     if number < k { number } else { 0 }
 }
 
-// The guard of a post, by its number and that heard from the post before.
-fn guard_holds(place: u8, heard: u16, number: u16) -> bool
-    ensures { λ r. ⌜ r ≡ mayBy place heard number ⌝ }
-{
-    match place {
-        0 => number == heard,
-        _ => number != heard,
-    }
-}
-
-// The number that a post takes when it moves.
-fn number_taken(place: u8, heard: u16, number: u16, k: u16) -> u16
-    ensures { λ r. ⌜ r ≡ nextBy k place heard number ⌝ }
-{
-    match place {
-        0 => if number < k.saturating_sub(1) {
-            number + 1
-        } else {
-            0
-        },
-        _ => heard,
-    }
-}
-
 impl Memory {
     pub(crate) fn may_move(self, k: u16, place: u8) -> bool
         ensures { λ r. ⌜ r ≡ mayMove k place self ⌝ }
     {
-        guard_holds(place, in_range(self.heard, k), in_range(self.number, k))
+        guard_holds(usize::from(place), in_range(self.heard, k), in_range(self.number, k))
     }
 
     pub(crate) fn deeds(self, k: u16, place: u8, button: bool) -> Deeds
@@ -89,7 +67,7 @@ impl Memory {
             return self;
         }
         Memory {
-            number: number_taken(place, self.heard, self.number, k),
+            number: number_taken(usize::from(place), self.heard, self.number, k),
             turn: Turn::over(),
             moves: self.moves.saturating_add(1),
             since: 0,
@@ -124,7 +102,7 @@ impl Memory {
     {
         let own = in_range(self.number, k);
         let had = self.may_move(k, place);
-        let has = guard_holds(place, number, own);
+        let has = guard_holds(usize::from(place), number, own);
         Memory {
             number: own,
             heard: number,
