@@ -1,25 +1,25 @@
 -- What a reader of frames meets, field by field; and a frame that the post before sent is accepted. Assumes nothing.
 use mathlib.Core.Path.{_≡_, refl, sym, ap, subst, _∙_}
-use mathlib.Core.List.{List, [], _∷_, _++_}
+use mathlib.Core.List.{List, [], _∷_}
 use Prim.Native.Nat.{ℕ, zero, suc, _+_, _-_, _*_, _/_, _%_, _≤_, _<_}
 use native.Mathlib.Omega.{arith}
-use lib.Dec.{ltb, leb, eqb}
 use lib.ListN.{length, take, drop, getD}
 use Rattle.std.specs.declared.option.Option.{Option}
 use Rattle.std.specs.declared.option.Option.the-variants.{Some, None}
 use Rattle.std.specs.declared.result.Result.the-variants.{Ok, Err}
+use Rattle.std.proofs.shelf.Lists.{length-drop, take-all}
 use Rattle.std.proofs.shelf.Tests.{cond-true, cond-false, eq-eqb, ne-eqb, lt-ltb, le-ltb, le-leb, lt-leb}
 use Rattle.frames.specs.declared.fault.Fault.{Fault}
 use Rattle.frames.specs.declared.fault.Fault.the-variants.{Malformed, OutOfRange, WrongSum, WrongSender, NumberTooLarge}
 use Rattle.frames.specs.Checks.{firstFault}
-use Rattle.frames.specs.Units.{Rule, Field, Laid, kindByte, readingFault}
+use Rattle.frames.specs.Units.{Field, Laid, valueOf}
 use Rattle.frames.specs.NumbersUnit.{memberNumber}
 use Rattle.frames.specs.Sum.{sumOf}
 use Rattle.frames.specs.Words.{wordBytes}
 use Rattle.frames.specs.FrameUnit.{frameBytes, senderOf, sentBy, sumWord, frameFields, frameChecks, ReadsAllSent}
 use Rattle.frames.proofs.FirstFault.{some-none}
 use Rattle.frames.proofs.Reading.{reading-first, rest-after}
-use Rattle.frames.proofs.UnitSteps.{Left, is-missing, too-long, at-end, byte-taken, word-taken, restAfter, rest-long, rest-item, items, take-items, all-items}
+use Rattle.frames.proofs.UnitSteps.{Left, no-kind, other-kind, after-kind, is-missing, too-long, at-end, byte-taken, word-taken, restAfter, rest-long, rest-item, rests, items, take-items, all-items}
 
 pub frame-laid : (n k listener : ℕ) (bs : List ℕ) → Laid (frameFields n k listener bs)
 frame-laid n k listener bs =
@@ -44,15 +44,15 @@ module _ (n k listener : ℕ) (bs : List ℕ) where
   reads = reading-first bs (frameFields n k listener bs) (frame-laid n k listener bs)
 
   pub kind-missing : length bs < 1 → Some Malformed ≡ faultHere
-  kind-missing h = is-missing bs faultHere 0 (kindByte 1) toPost reads (omega arith) h
+  kind-missing h = no-kind bs faultHere 1 toPost reads h
 
   module _ (there : 1 ≤ length bs) where
     pub kind-wrong : (getD bs 0 0 ≡ 1 → ⊥) → Some Malformed ≡ faultHere
-    kind-wrong e = sym (byte-taken bs faultHere 0 (kindByte 1) toPost reads refl there ∙ cond-false _ _ _ (ne-eqb (getD bs 0 0) 1 e))
+    kind-wrong e = other-kind bs faultHere 1 toPost reads there e
 
     module _ (kind : getD bs 0 0 ≡ 1) where
       reads-post : Left bs faultHere 1 toPost
-      reads-post = byte-taken bs faultHere 0 (kindByte 1) toPost reads refl there ∙ cond-true _ _ _ (eq-eqb (getD bs 0 0) 1 kind)
+      reads-post = after-kind bs faultHere 1 toPost reads there kind
 
       pub post-missing : length bs < 2 → Some Malformed ≡ faultHere
       post-missing h = is-missing bs faultHere 1 (sentBy n (senderOf n listener)) toNumber reads-post there h
@@ -103,13 +103,10 @@ module _ (n k listener : ℕ) (bs : List ℕ) where
                     pub frame-right : length bs ≤ 6 → None ≡ faultHere
                     frame-right h = at-end bs faultHere 6 reads-end h
 
--- the rests that a reader holds, and where their bytes stand
-
-abbrev pub afterKind : List ℕ → List ℕ
-afterKind bs = restAfter 1 bs
+-- the rests that a reader holds after the post, after the number and after the sum
 
 abbrev pub afterPost : List ℕ → List ℕ
-afterPost bs = restAfter 1 (afterKind bs)
+afterPost bs = restAfter 1 (restAfter 1 bs)
 
 abbrev pub afterNumber : List ℕ → List ℕ
 afterNumber bs = restAfter 2 (afterPost bs)
@@ -117,40 +114,32 @@ afterNumber bs = restAfter 2 (afterPost bs)
 abbrev pub afterSum : List ℕ → List ℕ
 afterSum bs = restAfter 2 (afterNumber bs)
 
-pub record Rests (bs : List ℕ) : Type 0 where
-  pub kind-long : length (afterKind bs) ≡ length bs - 1
-  pub post-long : length (afterPost bs) ≡ length bs - 2
-  pub number-long : length (afterNumber bs) ≡ length bs - 4
-  pub sum-long : length (afterSum bs) ≡ length bs - 6
-  pub post : getD (afterKind bs) 0 0 ≡ getD bs 1 0
-  pub high : getD (afterPost bs) 0 0 ≡ getD bs 2 0
+pub record NumberRests (bs : List ℕ) : Type 0 where
   pub low : getD (afterPost bs) 1 0 ≡ getD bs 3 0
+  pub number-long : length (afterNumber bs) ≡ length bs - 4
   pub sum-high : getD (afterNumber bs) 0 0 ≡ getD bs 4 0
   pub sum-low : getD (afterNumber bs) 1 0 ≡ getD bs 5 0
+  pub sum-long : length (afterSum bs) ≡ length bs - 6
 
-pub rests : (bs : List ℕ) → Rests bs
-rests bs =
-    let a = rest-after bs 0 1 bs refl in
-    let b = rest-after bs 1 1 (afterKind bs) a in
-    let d = rest-after bs 2 2 (afterPost bs) b in
-    let e = rest-after bs 4 2 (afterNumber bs) d in
+pub number-rests : (bs : List ℕ) → NumberRests bs
+number-rests bs =
+    let a = rests bs .second-rest in
+    let b = rest-after bs 2 2 (afterPost bs) a in
+    let d = rest-after bs 4 2 (afterNumber bs) b in
     record {
-      kind-long = rest-long bs 1 (afterKind bs) a;
-      post-long = rest-long bs 2 (afterPost bs) b;
-      number-long = rest-long bs 4 (afterNumber bs) d;
-      sum-long = rest-long bs 6 (afterSum bs) e;
-      post = rest-item bs 1 (afterKind bs) a 0;
-      high = rest-item bs 2 (afterPost bs) b 0;
-      low = rest-item bs 2 (afterPost bs) b 1;
-      sum-high = rest-item bs 4 (afterNumber bs) d 0;
-      sum-low = rest-item bs 4 (afterNumber bs) d 1;
+      low = rest-item bs 2 (afterPost bs) a 1;
+      number-long = rest-long bs 4 (afterNumber bs) b;
+      sum-high = rest-item bs 4 (afterNumber bs) b 0;
+      sum-low = rest-item bs 4 (afterNumber bs) b 1;
+      sum-long = rest-long bs 6 (afterSum bs) d;
     }
 
 -- the four bytes that the checksum is of
 pub head-is : (bs : List ℕ) → 4 ≤ length bs → getD bs 0 0 ≡ 1 →
-    take 4 bs ≡ 1 ∷ getD (afterKind bs) 0 0 ∷ getD (afterPost bs) 0 0 ∷ getD (afterPost bs) 1 0 ∷ []
+    take 4 bs ≡ 1 ∷ getD (restAfter 1 bs) 0 0 ∷ getD (afterPost bs) 0 0 ∷ getD (afterPost bs) 1 0 ∷ []
 head-is bs h kind =
     let at = rests bs in
+    let after = number-rests bs in
     take-items 4 0 bs h ∙ cc
 
 -- a number by its two bytes
@@ -205,3 +194,10 @@ frame-back bs p x v long octets kind post number sum right =
     let head : take 4 bs ≡ 1 ∷ p ∷ wordBytes x = take-items 4 0 bs (omega arith) ∙ cc in
     let same : v ≡ sumOf (1 ∷ p ∷ wordBytes x) = right ∙ ap sumOf head in
     all-items 6 bs long ∙ cc
+
+-- the sum that six bytes end with
+pub sum-read : (bs : List ℕ) (v : ℕ) → length bs ≡ 6 → v ≡ getD bs 4 0 * 256 + getD bs 5 0 → v ≡ valueOf (drop 4 bs)
+sum-read bs v long sum =
+    let last : take 2 (drop 4 bs) ≡ drop 4 bs = take-all 2 (drop 4 bs) (omega (arith, length-drop 4 bs)) in
+    let value : v ≡ valueOf (items 4 2 bs) = omega arith in
+    value ∙ ap valueOf (sym (take-items 2 4 bs (omega arith)) ∙ last)

@@ -10,3 +10,5 @@ pub mod UnitSteps
 pub mod FrameLaws
 pub mod OrderLaws
 pub mod PostLaws
+pub mod HexText
+pub mod SumCatches

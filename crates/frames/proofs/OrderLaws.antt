@@ -3,10 +3,10 @@ use mathlib.Core.Path.{_≡_, refl, sym, ap, subst, _∙_}
 use mathlib.Core.Bool.{Bool, true, false, cond, _&&_}
 use mathlib.Core.Logic.{inl, inr}
 use mathlib.Core.List.{List, [], _∷_}
-use Prim.Native.Nat.{ℕ, zero, suc, _+_, _-_, _≤_, _<_}
+use Prim.Native.Nat.{ℕ, zero, suc, _≤_, _<_}
 use native.Mathlib.Omega.{arith}
 use lib.Dec.{leb, ltb, eqb}
-use lib.ListN.{length, take, drop, getD, replicate}
+use lib.ListN.{length, drop, getD, replicate}
 use Rattle.std.specs.Results.{errPart}
 use Rattle.std.specs.Vec.{made}
 use Rattle.std.specs.declared.option.Option.{Option}
@@ -22,9 +22,9 @@ use Rattle.frames.specs.declared.order.Order.the-variants.{Tick, Hear, Lose, M
 use Rattle.frames.specs.declared.order.Command.{Command}
 use Rattle.frames.specs.Checks.{firstFault}
 use Rattle.frames.specs.Units.{Field, Laid, byteThat, kindByte, readingFault}
-use Rattle.frames.specs.OrderUnit.{whatOf, contentOf, orderBytes, AcceptsOrders, following, postBelow, anyByte, whatFields, orderChecks}
+use Rattle.frames.specs.OrderUnit.{whatOf, contentOf, orderBytes, AcceptsOrders, following, anyByte, whatFields, orderFields, orderChecks}
 use Rattle.frames.proofs.Reading.{reading-first, rest-after}
-use Rattle.frames.proofs.UnitSteps.{Left, is-missing, byte-refused, byte-accepted, restAfter, rest-long, rest-item}
+use Rattle.frames.proofs.UnitSteps.{Left, no-kind, other-kind, after-kind, is-missing, byte-refused, byte-accepted, restAfter}
 
 -- m bytes of any kind, and no more
 pub any-bytes : (m : ℕ) (bs : List ℕ) → readingFault (replicate m anyByte) bs ≡ cond (eqb (length bs) m) None (Some Malformed)
@@ -91,15 +91,15 @@ module _ (bs : List ℕ) (w : ℕ) (there : 1 ≤ length bs) (is : getD bs 0 0 �
 module _ (bs : List ℕ) (fault : Option Fault) (passes : ℕ → Bool) (fs : List Field)
     (reads : Left bs fault 0 (kindByte 3 ∷ byteThat OutOfRange passes ∷ fs)) where
   pub kind-missing : length bs < 1 → Some Malformed ≡ fault
-  kind-missing h = is-missing bs fault 0 (kindByte 3) (byteThat OutOfRange passes ∷ fs) reads (omega arith) h
+  kind-missing h = no-kind bs fault 3 (byteThat OutOfRange passes ∷ fs) reads h
 
   module _ (there : 1 ≤ length bs) where
     pub kind-wrong : (getD bs 0 0 ≡ 3 → ⊥) → Some Malformed ≡ fault
-    kind-wrong e = byte-refused bs fault 0 Malformed (λ v. eqb v 3) (byteThat OutOfRange passes ∷ fs) reads there (ne-eqb (getD bs 0 0) 3 e)
+    kind-wrong e = other-kind bs fault 3 (byteThat OutOfRange passes ∷ fs) reads there e
 
     module _ (kind : getD bs 0 0 ≡ 3) where
       reads-post : Left bs fault 1 (byteThat OutOfRange passes ∷ fs)
-      reads-post = byte-accepted bs fault 0 Malformed (λ v. eqb v 3) (byteThat OutOfRange passes ∷ fs) reads there (eq-eqb (getD bs 0 0) 3 kind)
+      reads-post = after-kind bs fault 3 (byteThat OutOfRange passes ∷ fs) reads there kind
 
       pub post-missing : length bs < 2 → Some Malformed ≡ fault
       post-missing h = is-missing bs fault 1 (byteThat OutOfRange passes) fs reads-post there h
@@ -115,31 +115,13 @@ any-laid : (m : ℕ) → Laid (replicate m anyByte)
 any-laid zero = tt
 any-laid (suc m) = ((omega arith, tt), any-laid m)
 
-pub reads-order : (n : ℕ) (bs : List ℕ) → Left bs (firstFault (orderChecks n bs)) 0 (kindByte 3 ∷ postBelow n ∷ whatFields (getD bs 2 0))
-unfolding orderChecks
-reads-order n bs =
-    reading-first bs (kindByte 3 ∷ postBelow n ∷ whatFields (getD bs 2 0))
+pub order-laid : (n : ℕ) (bs : List ℕ) → Laid (orderFields n bs)
+order-laid n bs =
     ((omega arith, (tt, tt)), ((omega arith, (tt, tt)), ((omega arith, (tt, tt)), any-laid (following (getD bs 2 0)))))
 
--- the rests that a reader of an order holds
-pub record Rests (bs : List ℕ) : Type 0 where
-  pub kind-long : length (restAfter 1 bs) ≡ length bs - 1
-  pub post : getD (restAfter 1 bs) 0 0 ≡ getD bs 1 0
-  pub post-rest : restAfter 1 (restAfter 1 bs) ≡ drop 2 bs
-  pub post-long : length (restAfter 1 (restAfter 1 bs)) ≡ length bs - 2
-  pub what : getD (restAfter 1 (restAfter 1 bs)) 0 0 ≡ getD bs 2 0
-
-pub rests : (bs : List ℕ) → Rests bs
-rests bs =
-    let a = rest-after bs 0 1 bs refl in
-    let b = rest-after bs 1 1 (restAfter 1 bs) a in
-    record {
-      kind-long = rest-long bs 1 (restAfter 1 bs) a;
-      post = rest-item bs 1 (restAfter 1 bs) a 0;
-      post-rest = b;
-      post-long = rest-long bs 2 (restAfter 1 (restAfter 1 bs)) b;
-      what = rest-item bs 2 (restAfter 1 (restAfter 1 bs)) b 0;
-    }
+pub reads-order : (n : ℕ) (bs : List ℕ) → Left bs (firstFault (orderChecks n bs)) 0 (orderFields n bs)
+unfolding orderChecks
+reads-order n bs = reading-first bs (orderFields n bs) (order-laid n bs)
 
 -- the bytes that an order was read from
 pub order-back : (bs : List ℕ) (p : ℕ) (rest : List ℕ) → 2 ≤ length bs → getD bs 0 0 ≡ 3 → p ≡ getD bs 1 0 → rest ≡ drop 2 bs → 3 ∷ p ∷ rest ≡ bs

@@ -124,14 +124,20 @@ reading-first bs fs h = ap faultIn (firstBroken-in-order (fieldChecks bs 0 fs) (
 pub field-missing : (f : Field) (fs : List Field) (bs : List ℕ) → length bs < f .width → readingFault (f ∷ fs) bs ≡ Some Malformed
 field-missing f fs bs h = rw (lt-ltb (length bs) (f .width) h)
 
+-- a field that is there is decided by its rules
+pub field-there : (f : Field) (fs : List Field) (bs : List ℕ) (w : ℕ) → f .width ≡ w → w ≤ length bs →
+    readingFault (f ∷ fs) bs ≡ ruleFault (valueOf (take w bs)) (f .rules) (readingFault fs (drop w bs))
+field-there f fs bs w wide h =
+    ap (λ n. cond (ltb (length bs) n) (Some Malformed) (ruleFault (valueOf (take n bs)) (f .rules) (readingFault fs (drop n bs)))) wide
+    ∙ cond-false _ _ _ (le-ltb (length bs) w h)
+
 module _ (f : Fault) (passes : ℕ → Bool) (fs : List Field) where
   byte-there : (bs : List ℕ) → 1 ≤ length bs →
       readingFault (byteThat f passes ∷ fs) bs ≡ cond (passes (getD bs 0 0)) (readingFault fs (drop 1 bs)) (Some f)
   byte-there [] h = absurd (omega arith)
   byte-there (b ∷ bs) h =
-      let there : ltb (length (b ∷ bs)) 1 ≡ false = le-ltb _ 1 h in
       let value : valueOf (b ∷ []) ≡ b = omega arith in
-      simp (there, value)
+      field-there (byteThat f passes) fs (b ∷ bs) 1 refl h ∙ ap (λ v. cond (passes v) (readingFault fs bs) (Some f)) value
 
   pub byte-fails : (bs : List ℕ) → 1 ≤ length bs → passes (getD bs 0 0) ≡ false → readingFault (byteThat f passes ∷ fs) bs ≡ Some f
   byte-fails bs h e = byte-there bs h ∙ cond-false _ _ _ e
@@ -145,9 +151,8 @@ module _ (f : Fault) (passes : ℕ → Bool) (fs : List Field) where
   word-there [] v h e = absurd (omega arith)
   word-there (a ∷ []) v h e = absurd (omega arith)
   word-there (a ∷ b ∷ bs) v h e =
-      let there : ltb (length (a ∷ b ∷ bs)) 2 ≡ false = le-ltb _ 2 h in
       let value : valueOf (a ∷ b ∷ []) ≡ v = omega arith in
-      simp (there, value)
+      field-there (wordThat f passes) fs (a ∷ b ∷ bs) 2 refl h ∙ ap (λ x. cond (passes x) (readingFault fs bs) (Some f)) value
 
   pub word-fails : (bs : List ℕ) (v : ℕ) → 2 ≤ length bs → v ≡ getD bs 0 0 * 256 + getD bs 1 0 → passes v ≡ false →
       readingFault (wordThat f passes ∷ fs) bs ≡ Some f

@@ -1,21 +1,20 @@
 -- Laws of the checksum: it is linear over exclusive or, and the bits of a byte can be added at once. Assumes nothing.
 use mathlib.Core.Path.{_≡_, refl, sym, ap, subst, _∙_}
-use mathlib.Core.Bool.{cond}
 use mathlib.Core.Logic.{inl, inr}
 use mathlib.Core.List.{List, [], _∷_, _++_}
 use Prim.Native.Nat.{ℕ, zero, suc, _+_, _-_, _*_, _/_, _%_, _^_, _≤_, _<_}
 use native.Mathlib.Nat.{add-zero, zero-add, mul-comm, mul-assoc, add-mul, zero-mul, mod-one, pow-suc}
 use native.Mathlib.Numerals.{one-add}
 use native.Mathlib.Omega.{arith}
-use lib.Dec.{leb, lit<}
-use lib.Bits.{bitAnd, bitOr, bitXor, and-mask, or-shifted, or-zero-r, xor-block, xor-assoc, xor-comm, xor-lt, xor-self, xor-zero-r, xor-shifted, xor-shr, xor-mod}
+use lib.Dec.{lit<}
+use lib.Bits.{bitAnd, bitOr, bitXor, and-mask, or-shifted, or-zero-r, xor-block, xor-assoc, xor-comm, xor-lt, xor-self, xor-zero-r, xor-shifted}
 use lib.ListN.{length, take, getD}
 use lib.Pow.{pow-pos, pow-add, shl-lt, mod-pow-add}
 use Rattle.std.specs.Joined.{joined}
 use Rattle.std.proofs.shelf.Bits.{mod-below}
 use Rattle.std.proofs.shelf.Lists.{take-more, joined-more}
 use Rattle.std.proofs.shelf.Tests.{le-leb, lt-leb, cases-lt, cond-true, cond-false}
-use Rattle.frames.specs.Sum.{polynomial, reduced, withBit, bitsDown, remainder}
+use Rattle.frames.specs.Sum.{reduced, withBit, bitsDown, remainder}
 
 -- exclusive or
 
@@ -222,7 +221,7 @@ byte-shifted r b m h k e =
     let low : b % 256 ≡ b = omega arith in
     sym (bits-shifted 8 8 r b refl h ∙ ap (λ x. shifts 8 (bitXor r x)) (ap (λ x. x * 256) low ∙ sym e))
 
-remainder-append : (r : ℕ) (bs cs : List ℕ) → remainder r (bs ++ cs) ≡ remainder (remainder r bs) cs
+pub remainder-append : (r : ℕ) (bs cs : List ℕ) → remainder r (bs ++ cs) ≡ remainder (remainder r bs) cs
 remainder-append r [] cs = refl
 remainder-append r (b ∷ bs) cs = remainder-append (withBit r b) bs cs
 

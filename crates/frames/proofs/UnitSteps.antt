@@ -1,21 +1,21 @@
 -- Steps of a reader that takes a unit's fields one after the other. Assumes nothing.
 use mathlib.Core.Path.{_≡_, refl, sym, ap, subst, _∙_}
-use mathlib.Core.Bool.{Bool, true, false, cond}
+use mathlib.Core.Bool.{Bool, true, false}
 use mathlib.Core.List.{List, [], _∷_}
 use Prim.Native.Nat.{ℕ, zero, suc, _+_, _-_, _*_, _≤_, _<_}
 use native.Mathlib.Nat.{add-assoc}
 use native.Mathlib.Numerals.{add-one}
 use native.Mathlib.Omega.{arith}
-use lib.Dec.{ltb}
+use lib.Dec.{eqb}
 use lib.ListN.{length, take, drop, getD}
 use Rattle.std.specs.declared.option.Option.{Option}
 use Rattle.std.specs.declared.option.Option.the-variants.{Some, None}
 use Rattle.std.proofs.shelf.Lists.{length-drop, drop-more, drop-all, take-all, getD-drop}
-use Rattle.std.proofs.shelf.Tests.{cond-true, cond-false, le-ltb}
+use Rattle.std.proofs.shelf.Tests.{cond-true, cond-false, eq-eqb, ne-eqb}
 use Rattle.frames.specs.declared.fault.Fault.{Fault}
 use Rattle.frames.specs.declared.fault.Fault.the-variants.{Malformed}
-use Rattle.frames.specs.Units.{Field, byteThat, valueOf, ruleFault, readingFault}
-use Rattle.frames.proofs.Reading.{field-missing}
+use Rattle.frames.specs.Units.{Field, byteThat, kindByte, valueOf, ruleFault, readingFault}
+use Rattle.frames.proofs.Reading.{field-missing, field-there, rest-after}
 
 -- a bytes are taken, these fields are left, and they decide the fault
 abbrev pub Left : List ℕ → Option Fault → ℕ → List Field → Type 0
@@ -36,9 +36,7 @@ module _ (bs : List ℕ) (fault : Option Fault) (a : ℕ) where
     field-taken : (w : ℕ) (xs : List ℕ) → f .width ≡ w → drop a bs ≡ xs → w ≤ length xs →
         fault ≡ ruleFault (valueOf (take w xs)) (f .rules) (readingFault fs (drop w xs))
     field-taken w xs wide e h =
-        left ∙ ap (readingFault (f ∷ fs)) e
-        ∙ ap (λ n. cond (ltb (length xs) n) (Some Malformed) (ruleFault (valueOf (take n xs)) (f .rules) (readingFault fs (drop n xs)))) wide
-        ∙ cond-false _ _ _ (le-ltb (length xs) w h)
+        left ∙ ap (readingFault (f ∷ fs)) e ∙ field-there f fs xs w wide h
 
     pub byte-taken : f .width ≡ 1 → a < length bs → fault ≡ ruleFault (getD bs a 0) (f .rules) (readingFault fs (drop (a + 1) bs))
     byte-taken wide h =
@@ -65,6 +63,18 @@ module _ (bs : List ℕ) (fault : Option Fault) (a : ℕ) where
     pub byte-accepted : passes (getD bs a 0) ≡ true → Left bs fault (a + 1) fs
     byte-accepted e = byte-taken (byteThat f passes) fs left refl there ∙ cond-true _ _ _ e
 
+-- the kind of a unit
+module _ (bs : List ℕ) (fault : Option Fault) (k : ℕ) (fs : List Field) (reads : Left bs fault 0 (kindByte k ∷ fs)) where
+  pub no-kind : length bs < 1 → Some Malformed ≡ fault
+  no-kind h = is-missing bs fault 0 (kindByte k) fs reads (omega arith) h
+
+  module _ (there : 1 ≤ length bs) where
+    pub other-kind : (getD bs 0 0 ≡ k → ⊥) → Some Malformed ≡ fault
+    other-kind e = byte-refused bs fault 0 Malformed (λ v. eqb v k) fs reads there (ne-eqb (getD bs 0 0) k e)
+
+    pub after-kind : getD bs 0 0 ≡ k → Left bs fault 1 fs
+    after-kind e = byte-accepted bs fault 0 Malformed (λ v. eqb v k) fs reads there (eq-eqb (getD bs 0 0) k e)
+
 -- what a pattern leaves of the bytes: all but the first b
 abbrev pub restAfter : ℕ → List ℕ → List ℕ
 restAfter b bs = take (length bs - b) (drop b bs)
@@ -75,6 +85,26 @@ module _ (bs : List ℕ) (a : ℕ) (rest : List ℕ) (is : rest ≡ drop a bs) w
 
   pub rest-item : (i : ℕ) → getD rest i 0 ≡ getD bs (a + i) 0
   rest-item i = ap (λ xs. getD xs i 0) is ∙ getD-drop a bs i 0
+
+-- the rests after the kind and after the byte that follows it
+pub record Rests (bs : List ℕ) : Type 0 where
+  pub kind-long : length (restAfter 1 bs) ≡ length bs - 1
+  pub second : getD (restAfter 1 bs) 0 0 ≡ getD bs 1 0
+  pub second-rest : restAfter 1 (restAfter 1 bs) ≡ drop 2 bs
+  pub second-long : length (restAfter 1 (restAfter 1 bs)) ≡ length bs - 2
+  pub third : getD (restAfter 1 (restAfter 1 bs)) 0 0 ≡ getD bs 2 0
+
+pub rests : (bs : List ℕ) → Rests bs
+rests bs =
+    let a = rest-after bs 0 1 bs refl in
+    let b = rest-after bs 1 1 (restAfter 1 bs) a in
+    record {
+      kind-long = rest-long bs 1 (restAfter 1 bs) a;
+      second = rest-item bs 1 (restAfter 1 bs) a 0;
+      second-rest = b;
+      second-long = rest-long bs 2 (restAfter 1 (restAfter 1 bs)) b;
+      third = rest-item bs 2 (restAfter 1 (restAfter 1 bs)) b 0;
+    }
 
 -- m bytes from a place on, one by one
 abbrev pub items : ℕ → ℕ → List ℕ → List ℕ

@@ -24,7 +24,7 @@ abbrev pub senderOf : ℕ → ℕ → ℕ
 senderOf n zero = n - 1
 senderOf n (suc i) = i
 
--- the post that sent, where there are n posts and the frame should come from this one
+-- the post that sent a frame: one of n, and the one that should have
 abbrev pub sentBy : ℕ → ℕ → Field
 sentBy n sender = record {
   width = 1;

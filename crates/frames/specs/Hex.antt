@@ -2,10 +2,11 @@
 use mathlib.Core.Bool.{Bool, true, false, cond, _&&_, _||_}
 use mathlib.Core.Path.{_≡_}
 use mathlib.Core.List.{List, [], _∷_, _++_}
-use Prim.Native.Nat.{ℕ, _+_, _-_, _*_}
+use Prim.Native.Nat.{ℕ, _+_, _-_, _*_, _/_, _%_}
 use lib.Dec.{ltb, eqb}
 use lib.ListN.{length, take, getD}
-use Rattle.std.specs.Text.{digitValue}
+use Rattle.std.specs.Joined.{joined}
+use Rattle.std.specs.Text.{digitValue, digitChar}
 use Rattle.std.specs.declared.option.Option.{Option}
 use Rattle.std.specs.declared.option.Option.the-variants.{Some, None}
 use Rattle.std.specs.declared.result.Result.{Result}
@@ -89,3 +90,11 @@ abbrev pub settled : {X E : Type 0} → E → Ending → Result X E → Result X
 settled fault Whole answer = answer
 settled fault Damaged (Ok x) = Err fault
 settled fault Damaged (Err e) = Err e
+
+-- bytes as text: two digits in lower case to a byte, and a blank between bytes
+abbrev pub byteText : ℕ → List ℕ
+byteText b = digitChar (b / 16) ∷ digitChar (b % 16) ∷ []
+
+abbrev pub hexText : List ℕ → List ℕ
+hexText [] = []
+hexText (b ∷ bs) = byteText b ++ joined (λ c. 32 ∷ byteText c) bs

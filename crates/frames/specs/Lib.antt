@@ -6,6 +6,7 @@ pub mod Words
 pub mod Sum
 pub mod SettingsUnit
 pub mod NumbersUnit
+pub mod Damage
 pub mod FrameUnit
 pub mod OrderUnit
 pub mod PostUnit

@@ -57,8 +57,11 @@ abbrev pub whatFields : ℕ → List Field
 whatFields what = byteThat Malformed (λ w. leb 1 w && leb w 8) ∷ replicate (following what) anyByte
 
 -- the third byte says what is to be done
+abbrev pub orderFields : ℕ → List ℕ → List Field
+orderFields n bs = kindByte 3 ∷ postBelow n ∷ whatFields (getD bs 2 0)
+
 unfoldable pub orderChecks : ℕ → List ℕ → List Check
-orderChecks n bs = unitChecks bs (kindByte 3 ∷ postBelow n ∷ whatFields (getD bs 2 0))
+orderChecks n bs = unitChecks bs (orderFields n bs)
 
 -- the bytes of any order to one of n posts are read with no fault
 abbrev pub AcceptsOrders : ℕ → List ℕ → Option Fault → Type 0

@@ -10,8 +10,11 @@ use Rattle.frames.specs.Checks.{Check}
 use Rattle.frames.specs.Units.{Field, byteThat, kindByte, unitChecks}
 use Rattle.frames.specs.OrderUnit.{postBelow}
 
+abbrev pub placeFields : ℕ → List Field
+placeFields n = postBelow n ∷ []
+
 unfoldable pub placeChecks : ℕ → List ℕ → List Check
-placeChecks n bs = unitChecks bs (postBelow n ∷ [])
+placeChecks n bs = unitChecks bs (placeFields n)
 
 -- the number of an order to one post, which is that of the same order to a ring
 abbrev pub postWhat : PostOrder → ℕ

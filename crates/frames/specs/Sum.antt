@@ -16,7 +16,7 @@ polynomial = 0x11021
 abbrev pub reduced : ℕ → ℕ
 reduced v = cond (leb 0x10000 v) (bitXor v polynomial) v
 
--- r is the remainder of the bits so far, times x^16; one bit more
+-- r is the remainder of the bits so far, times x^16; with a bit b more it is that of x * r + b * x^16
 abbrev pub withBit : ℕ → ℕ → ℕ
 withBit r b = reduced (bitXor (2 * r) (0x10000 * b))
 
@@ -25,6 +25,7 @@ abbrev pub bitsDown : ℕ → ℕ → List ℕ
 bitsDown zero v = []
 bitsDown (suc k) v = (v / 2 ^ k % 2) ∷ bitsDown k v
 
+-- the same with more bits
 abbrev pub remainder : ℕ → List ℕ → ℕ
 remainder r bits = folded withBit r bits
 

@@ -1,9 +1,10 @@
 // Frames, which carry a post's number to the post after it. Assumes nothing.
 ghost use mathlib.Core.Path.{_≡_};
 ghost use Prim.Native.Nat.{_<_};
-ghost use Rattle.std.specs.Results.{errPart};
+ghost use Rattle.std.specs.Results.{errPart, isOk};
 ghost use Rattle.std.specs.Vec.{made};
 ghost use Rattle.frames.specs.Checks.{firstFault, IsFirstFault};
+ghost use Rattle.frames.specs.Damage.{Caught};
 ghost use Rattle.frames.specs.FrameUnit.{frameBytes, frameChecks, senderOf, ReadsAllSent};
 use crate::Fault;
 use crate::Settings;
@@ -39,6 +40,7 @@ pub fn read_frame(bytes: &[u8], settings: &Settings, listener: u8) -> Result<u16
     ensures first { λ r. ⌜ IsFirstFault (frameChecks (now (settings .entry) .posts) (now (settings .entry) .k) listener (now (bytes .entry))) (errPart r) ⌝ }
     ensures value { λ r. ⌜ made r (λ x. (x < now (settings .entry) .k) × (now (bytes .entry) ≡ frameBytes (senderOf (now (settings .entry) .posts) listener) x)) ⌝ }
     ensures complete { λ r. ⌜ ReadsAllSent (now (settings .entry) .posts) (now (settings .entry) .k) listener (now (bytes .entry)) r ⌝ }
+    ensures caught { λ r. ⌜ Caught (now (bytes .entry)) (isOk r) ⌝ }
 {
     let [kind, rest @ ..] = bytes else {
         return Err(Fault::Malformed);

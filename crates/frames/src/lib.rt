@@ -1,4 +1,4 @@
-// Bytes and text of the ring's programs: faults, hexadecimal lines, settings and lists of numbers. Assumes nothing.
+// Bytes and text of the ring's programs: faults, hexadecimal lines, settings, frames, orders and lists of numbers. Assumes nothing.
 mod fault;
 mod frame;
 mod input;
@@ -11,6 +11,9 @@ mod settings;
 mod sum;
 #[cfg(test)]
 mod tests;
+mod text;
+#[cfg(test)]
+mod unit_tests;
 mod words;
 
 pub use fault::Fault;
@@ -55,3 +58,4 @@ pub use settings::Settings;
 pub use settings::SettingsDebug;
 pub use settings::read_settings;
 pub use sum::checksum;
+pub use text::write_line;

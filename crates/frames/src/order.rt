@@ -16,7 +16,7 @@ use crate::Fault;
 use crate::Settings;
 
 // The first byte of an order.
-const KIND: u8 = 3;
+pub(crate) const KIND: u8 = 3;
 
 // What is to be done at a post, or at its line.
 #[derive(Clone, Copy, PartialEq, Eq, Debug)]

@@ -9,9 +9,7 @@ ghost use Rattle.frames.specs.Units.{readingFault};
 ghost use Rattle.frames.specs.PostUnit.{placeChecks, postWhat, postOrderBytes, postWhatField, postOrderChecks};
 use crate::Fault;
 use crate::Settings;
-
-// The first byte of an order.
-const KIND: u8 = 3;
+use crate::order::KIND;
 
 // What one post is told, besides the frames that come to it.
 #[derive(Clone, Copy, PartialEq, Eq, Debug)]

@@ -7,11 +7,13 @@ use frames::Fault;
 use frames::FaultDisplay;
 use frames::Stop;
 use frames::StopDisplay;
+use frames::StopFromAlloc;
 use frames::StopFromFault;
 use frames::StopFromIo;
 use frames::next_unit;
 use frames::read_place;
 use frames::read_settings;
+use frames::write_line;
 use posts::Act;
 use posts::Memory;
 use posts::Post;
@@ -24,8 +26,9 @@ fn print_act(rt: &LibcRuntime, act: Act) -> Result<(), Stop> {
     }
     let sends = act.sends;
     if let Some(frame) = sends {
-        let [a, b, c, d, e, f] = frame;
-        println!(rt, "{a:02x} {b:02x} {c:02x} {d:02x} {e:02x} {f:02x}")?;
+        let mut text = String::new(rt.alloc());
+        write_line(&frame, &mut text)?;
+        println!(rt, "{text}")?;
     }
     Ok(())
 }

@@ -7,7 +7,9 @@ use Rattle.std.proofs.shelf.Tests.{ltb-true, ltb-false, eqb-true, eqb-false}
 use Rattle.frames.specs.FrameUnit.{senderOf}
 use Rattle.frames.specs.Sum.{sumOf}
 use Rattle.frames.proofs.FirstFault.{is-first}
-use Rattle.frames.proofs.FrameLaws.{kind-missing, kind-wrong, post-missing, post-beyond, post-other, number-missing, number-large, sum-missing, sum-wrong, frame-long, frame-right, afterSum, rests, head-is, frame-back, refusal-complete, number-complete}
+use Rattle.frames.proofs.FrameLaws.{kind-missing, kind-wrong, post-missing, post-beyond, post-other, number-missing, number-large, sum-missing, sum-wrong, frame-long, frame-right, afterSum, number-rests, head-is, frame-back, sum-read, refusal-complete, number-complete}
+use Rattle.frames.proofs.SumCatches.{refused-caught, accepted-caught}
+use Rattle.frames.proofs.UnitSteps.{rests}
 use Rattle.frames.proofs.frame.read_frame.Needs as need
 
 pub returns-in-rest : need.returns-in-rest
@@ -16,7 +18,7 @@ returns-in-rest c =
     let k = c .args .settings .now .k in
     let bs = c .args .bytes .now in
     let e = kind-missing n k (c .args .listener) bs (omega (arith, ltb-true)) in
-    record { fault = e; first = is-first _ _ e; value = tt; complete = refusal-complete n k (c .args .listener) bs _ e }
+    record { fault = e; first = is-first _ _ e; value = tt; complete = refusal-complete n k (c .args .listener) bs _ e; caught = refused-caught bs }
 
 pub returns-then-kind-ne-KIND : need.returns-then-kind-ne-KIND
 returns-then-kind-ne-KIND c =
@@ -24,7 +26,7 @@ returns-then-kind-ne-KIND c =
     let k = c .args .settings .now .k in
     let bs = c .args .bytes .now in
     let e = kind-wrong n k (c .args .listener) bs (omega (arith, ltb-false)) (c .if-kind-ne-KIND .taken) in
-    record { fault = e; first = is-first _ _ e; value = tt; complete = refusal-complete n k (c .args .listener) bs _ e }
+    record { fault = e; first = is-first _ _ e; value = tt; complete = refusal-complete n k (c .args .listener) bs _ e; caught = refused-caught bs }
 
 pub returns-in-rest-rest : need.returns-in-rest-rest
 returns-in-rest-rest c =
@@ -32,8 +34,9 @@ returns-in-rest-rest c =
     let k = c .args .settings .now .k in
     let bs = c .args .bytes .now in
     let at = rests bs in
+    let after = number-rests bs in
     let e = post-missing n k (c .args .listener) bs (omega (arith, ltb-false)) (c .if-kind-ne-KIND .left) (omega (arith, ltb-true)) in
-    record { fault = e; first = is-first _ _ e; value = tt; complete = refusal-complete n k (c .args .listener) bs _ e }
+    record { fault = e; first = is-first _ _ e; value = tt; complete = refusal-complete n k (c .args .listener) bs _ e; caught = refused-caught bs }
 
 pub returns-then-post-settings : need.returns-then-post-settings
 returns-then-post-settings c =
@@ -41,9 +44,10 @@ returns-then-post-settings c =
     let k = c .args .settings .now .k in
     let bs = c .args .bytes .now in
     let at = rests bs in
+    let after = number-rests bs in
     let long : 2 ≤ length bs = omega (arith, ltb-false) in
     let e = post-beyond n k (c .args .listener) bs (omega arith) (c .if-kind-ne-KIND .left) long (omega (arith, c .if-post-settings .taken)) in
-    record { fault = e; first = is-first _ _ e; value = tt; complete = refusal-complete n k (c .args .listener) bs _ e }
+    record { fault = e; first = is-first _ _ e; value = tt; complete = refusal-complete n k (c .args .listener) bs _ e; caught = refused-caught bs }
 
 pub returns-then-post-sender : need.returns-then-post-sender
 returns-then-post-sender c =
@@ -52,10 +56,11 @@ returns-then-post-sender c =
     let l = c .args .listener in
     let bs = c .args .bytes .now in
     let at = rests bs in
+    let after = number-rests bs in
     let long : 2 ≤ length bs = omega (arith, ltb-false) in
     let e = post-other n k l bs (omega arith) (c .if-kind-ne-KIND .left) long (omega (arith, c .if-post-settings .left))
-    (λ s. c .if-post-sender .taken (at .post ∙ s ∙ sym (c .sender .ensures))) in
-    record { fault = e; first = is-first _ _ e; value = tt; complete = refusal-complete n k l bs _ e }
+    (λ s. c .if-post-sender .taken (at .second ∙ s ∙ sym (c .sender .ensures))) in
+    record { fault = e; first = is-first _ _ e; value = tt; complete = refusal-complete n k l bs _ e; caught = refused-caught bs }
 
 pub returns-in-rest-rest-2 : need.returns-in-rest-rest-2
 returns-in-rest-rest-2 c =
@@ -64,11 +69,12 @@ returns-in-rest-rest-2 c =
     let l = c .args .listener in
     let bs = c .args .bytes .now in
     let at = rests bs in
-    let sent : getD bs 1 0 ≡ senderOf n l = sym (at .post) ∙ c .if-post-sender .left ∙ c .sender .ensures in
+    let after = number-rests bs in
+    let sent : getD bs 1 0 ≡ senderOf n l = sym (at .second) ∙ c .if-post-sender .left ∙ c .sender .ensures in
     let within : getD bs 1 0 < n = omega (arith, c .if-post-settings .left) in
     let long : 2 ≤ length bs = omega (arith, ltb-false) in
     let e = number-missing n k l bs (omega arith) (c .if-kind-ne-KIND .left) long within sent (omega (arith, ltb-true)) in
-    record { fault = e; first = is-first _ _ e; value = tt; complete = refusal-complete n k l bs _ e }
+    record { fault = e; first = is-first _ _ e; value = tt; complete = refusal-complete n k l bs _ e; caught = refused-caught bs }
 
 pub returns-then-number-settings : need.returns-then-number-settings
 returns-then-number-settings c =
@@ -77,13 +83,14 @@ returns-then-number-settings c =
     let l = c .args .listener in
     let bs = c .args .bytes .now in
     let at = rests bs in
-    let sent : getD bs 1 0 ≡ senderOf n l = sym (at .post) ∙ c .if-post-sender .left ∙ c .sender .ensures in
+    let after = number-rests bs in
+    let sent : getD bs 1 0 ≡ senderOf n l = sym (at .second) ∙ c .if-post-sender .left ∙ c .sender .ensures in
     let within : getD bs 1 0 < n = omega (arith, c .if-post-settings .left) in
     let x = c .from-be-bytes-number .result in
     let number : x ≡ getD bs 2 0 * 256 + getD bs 3 0 = omega (arith, c .from-be-bytes-number .ensures) in
     let long : 4 ≤ length bs = omega (arith, ltb-false) in
     let e = number-large n k l bs (omega arith) (c .if-kind-ne-KIND .left) (omega arith) within sent long x number (c .if-number-settings .taken) (omega arith) in
-    record { fault = e; first = is-first _ _ e; value = tt; complete = refusal-complete n k l bs _ e }
+    record { fault = e; first = is-first _ _ e; value = tt; complete = refusal-complete n k l bs _ e; caught = refused-caught bs }
 
 pub returns-in-rest-rest-3 : need.returns-in-rest-rest-3
 returns-in-rest-rest-3 c =
@@ -92,14 +99,15 @@ returns-in-rest-rest-3 c =
     let l = c .args .listener in
     let bs = c .args .bytes .now in
     let at = rests bs in
-    let sent : getD bs 1 0 ≡ senderOf n l = sym (at .post) ∙ c .if-post-sender .left ∙ c .sender .ensures in
+    let after = number-rests bs in
+    let sent : getD bs 1 0 ≡ senderOf n l = sym (at .second) ∙ c .if-post-sender .left ∙ c .sender .ensures in
     let within : getD bs 1 0 < n = omega (arith, c .if-post-settings .left) in
     let x = c .from-be-bytes-number .result in
     let number : x ≡ getD bs 2 0 * 256 + getD bs 3 0 = omega (arith, c .from-be-bytes-number .ensures) in
     let long : 4 ≤ length bs = omega (arith, ltb-false) in
     let e = sum-missing n k l bs (omega arith) (c .if-kind-ne-KIND .left) (omega arith) within sent long x number (c .if-number-settings .left)
     (omega (arith, ltb-true)) in
-    record { fault = e; first = is-first _ _ e; value = tt; complete = refusal-complete n k l bs _ e }
+    record { fault = e; first = is-first _ _ e; value = tt; complete = refusal-complete n k l bs _ e; caught = refused-caught bs }
 
 pub returns-then-from-be-bytes-checksum : need.returns-then-from-be-bytes-checksum
 returns-then-from-be-bytes-checksum c =
@@ -108,7 +116,8 @@ returns-then-from-be-bytes-checksum c =
     let l = c .args .listener in
     let bs = c .args .bytes .now in
     let at = rests bs in
-    let sent : getD bs 1 0 ≡ senderOf n l = sym (at .post) ∙ c .if-post-sender .left ∙ c .sender .ensures in
+    let after = number-rests bs in
+    let sent : getD bs 1 0 ≡ senderOf n l = sym (at .second) ∙ c .if-post-sender .left ∙ c .sender .ensures in
     let within : getD bs 1 0 < n = omega (arith, c .if-post-settings .left) in
     let x = c .from-be-bytes-number .result in
     let number : x ≡ getD bs 2 0 * 256 + getD bs 3 0 = omega (arith, c .from-be-bytes-number .ensures) in
@@ -117,7 +126,7 @@ returns-then-from-be-bytes-checksum c =
     let long : 6 ≤ length bs = omega (arith, ltb-false) in
     let e = sum-wrong n k l bs (omega arith) (c .if-kind-ne-KIND .left) (omega arith) within sent (omega arith) x number (c .if-number-settings .left) long v sum
     (λ r. c .if-from-be-bytes-checksum .taken (r ∙ ap sumOf (head-is bs (omega arith) (c .if-kind-ne-KIND .left)) ∙ sym (c .checksum .ensures))) in
-    record { fault = e; first = is-first _ _ e; value = tt; complete = refusal-complete n k l bs _ e }
+    record { fault = e; first = is-first _ _ e; value = tt; complete = refusal-complete n k l bs _ e; caught = refused-caught bs }
 
 pub returns-else-is-empty : need.returns-else-is-empty
 returns-else-is-empty c =
@@ -126,7 +135,8 @@ returns-else-is-empty c =
     let l = c .args .listener in
     let bs = c .args .bytes .now in
     let at = rests bs in
-    let sent : getD bs 1 0 ≡ senderOf n l = sym (at .post) ∙ c .if-post-sender .left ∙ c .sender .ensures in
+    let after = number-rests bs in
+    let sent : getD bs 1 0 ≡ senderOf n l = sym (at .second) ∙ c .if-post-sender .left ∙ c .sender .ensures in
     let within : getD bs 1 0 < n = omega (arith, c .if-post-settings .left) in
     let x = c .from-be-bytes-number .result in
     let number : x ≡ getD bs 2 0 * 256 + getD bs 3 0 = omega (arith, c .from-be-bytes-number .ensures) in
@@ -138,7 +148,7 @@ returns-else-is-empty c =
     let more : length (afterSum bs) ≡ 0 → ⊥ = eqb-false (length (afterSum bs)) 0 (sym (c .if-is-empty .ensures tt)) in
     let e = frame-long n k l bs (omega arith) (c .if-kind-ne-KIND .left) (omega arith) within sent (omega arith) x number (c .if-number-settings .left) long v sum right
     (omega arith) in
-    record { fault = e; first = is-first _ _ e; value = tt; complete = refusal-complete n k l bs _ e }
+    record { fault = e; first = is-first _ _ e; value = tt; complete = refusal-complete n k l bs _ e; caught = refused-caught bs }
 
 pub returns-then-is-empty : need.returns-then-is-empty
 returns-then-is-empty c =
@@ -147,7 +157,8 @@ returns-then-is-empty c =
     let l = c .args .listener in
     let bs = c .args .bytes .now in
     let at = rests bs in
-    let sent : getD bs 1 0 ≡ senderOf n l = sym (at .post) ∙ c .if-post-sender .left ∙ c .sender .ensures in
+    let after = number-rests bs in
+    let sent : getD bs 1 0 ≡ senderOf n l = sym (at .second) ∙ c .if-post-sender .left ∙ c .sender .ensures in
     let within : getD bs 1 0 < n = omega (arith, c .if-post-settings .left) in
     let x = c .from-be-bytes-number .result in
     let number : x ≡ getD bs 2 0 * 256 + getD bs 3 0 = omega (arith, c .from-be-bytes-number .ensures) in
@@ -160,4 +171,10 @@ returns-then-is-empty c =
     let e = frame-right n k l bs (omega arith) (c .if-kind-ne-KIND .left) (omega arith) within sent (omega arith) x number (c .if-number-settings .left) long v sum right
     (omega arith) in
     let back = frame-back bs (senderOf n l) x v (omega arith) (λ i. omega (arith, c .typed .bytes i)) (c .if-kind-ne-KIND .left) sent number sum right in
-    record { fault = e; first = is-first _ _ e; value = (c .if-number-settings .left, back); complete = number-complete n k l bs x back }
+    record {
+      fault = e;
+      first = is-first _ _ e;
+      value = (c .if-number-settings .left, back);
+      complete = number-complete n k l bs x back;
+      caught = accepted-caught bs (sym right ∙ sum-read bs v (omega arith) sum);
+    }

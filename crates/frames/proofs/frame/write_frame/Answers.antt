@@ -5,7 +5,6 @@ use Prim.Native.Nat.{_/_, _%_}
 use native.Mathlib.Omega.{arith}
 use lib.ListN.{getD}
 use Rattle.frames.specs.Sum.{sumOf}
-use Rattle.frames.specs.Words.{wordBytes}
 use Rattle.frames.specs.FrameUnit.{frameBytes}
 use Rattle.frames.proofs.frame.write_frame.Needs as need
 

@@ -11,8 +11,8 @@ use Rattle.frames.specs.Checks.{firstFault}
 use Rattle.frames.specs.Units.{readingFault}
 use Rattle.frames.specs.OrderUnit.{whatFields, orderChecks}
 use Rattle.frames.proofs.FirstFault.{is-first}
-use Rattle.frames.proofs.OrderLaws.{kind-missing, kind-wrong, post-missing, post-refused, post-accepted, reads-order, rests, order-back, accepts-orders}
-use Rattle.frames.proofs.UnitSteps.{restAfter}
+use Rattle.frames.proofs.OrderLaws.{kind-missing, kind-wrong, post-missing, post-refused, post-accepted, reads-order, order-back, accepts-orders}
+use Rattle.frames.proofs.UnitSteps.{restAfter, rests}
 use Rattle.frames.proofs.order.read_order.Needs as need
 
 pub returns-in-rest : need.returns-in-rest
@@ -66,7 +66,7 @@ returns-in-Break-order c =
     (lt-ltb (getD bs 1 0) n within) in
     let rest = restAfter 1 (restAfter 1 bs) in
     let same : readingFault (whatFields (getD rest 0 0)) rest ≡ firstFault (orderChecks n bs) =
-    ap (λ w. readingFault (whatFields w) rest) (at .what) ∙ ap (readingFault fs) (at .post-rest) ∙ sym left in
+    ap (λ w. readingFault (whatFields w) rest) (at .third) ∙ ap (readingFault fs) (at .second-rest) ∙ sym left in
     let p = err-from-errBy (c .from-residual .result) (c .from-residual .ensures .1) in
     let e : Some (c .in-Break-order .field-0 .0) ≡ firstFault (orderChecks n bs) = c .in-Break-order .ensures tt .fault ∙ same in
     rw (p .1, p .2) record { fault = e; first = is-first _ _ e; value = tt; below = tt; complete = accepts-orders n bs _ e }
@@ -83,13 +83,13 @@ returns c =
     (lt-ltb (getD bs 1 0) n within) in
     let rest = restAfter 1 (restAfter 1 bs) in
     let same : readingFault (whatFields (getD rest 0 0)) rest ≡ firstFault (orderChecks n bs) =
-    ap (λ w. readingFault (whatFields w) rest) (at .what) ∙ ap (readingFault fs) (at .post-rest) ∙ sym left in
+    ap (λ w. readingFault (whatFields w) rest) (at .third) ∙ ap (readingFault fs) (at .second-rest) ∙ sym left in
     let told = c .in-Continue-order .ensures tt in
     let e : None ≡ firstFault (orderChecks n bs) = told .fault ∙ same in
     record {
       fault = e;
       first = is-first _ _ e;
-      value = order-back bs (getD (restAfter 1 bs) 0 0) _ long (c .if-kind-ne-KIND .left) (at .post) (told .value ∙ at .post-rest);
+      value = order-back bs (getD (restAfter 1 bs) 0 0) _ long (c .if-kind-ne-KIND .left) (at .second) (told .value ∙ at .second-rest);
       below = c .if-post-settings .left;
       complete = accepts-orders n bs _ e;
     }

@@ -1,5 +1,5 @@
 -- What `read_what` owes, from the laws of orders. Assumes nothing.
-use mathlib.Core.Path.{_≡_, refl}
+use mathlib.Core.Path.{refl}
 use native.Mathlib.Omega.{arith}
 use Rattle.std.proofs.shelf.Tests.{ltb-false}
 use Rattle.frames.specs.declared.order.Order.the-variants.{Tick, Hear, Lose, ButtonDown, ButtonUp, Show}

@@ -1,7 +1,7 @@
 -- What `read_place` owes, from the laws of its field. Assumes nothing.
-use mathlib.Core.Path.{_≡_, refl, sym, ap, _∙_}
-use mathlib.Core.List.{[], _∷_}
-use Prim.Native.Nat.{_≤_, _<_}
+use mathlib.Core.Path.{refl, sym}
+use mathlib.Core.List.{[]}
+use Prim.Native.Nat.{_≤_}
 use native.Mathlib.Omega.{arith}
 use lib.Dec.{ltb}
 use lib.ListN.{length, getD}

@@ -12,9 +12,9 @@ use Rattle.frames.specs.Checks.{firstFault}
 use Rattle.frames.specs.Units.{readingFault}
 use Rattle.frames.specs.PostUnit.{postWhat, postOrderBytes, postWhatField, postOrderChecks}
 use Rattle.frames.proofs.FirstFault.{is-first}
-use Rattle.frames.proofs.OrderLaws.{kind-missing, kind-wrong, post-missing, post-refused, post-accepted, rests, order-back}
+use Rattle.frames.proofs.OrderLaws.{kind-missing, kind-wrong, post-missing, post-refused, post-accepted, order-back}
 use Rattle.frames.proofs.PostLaws.{reads-post-order}
-use Rattle.frames.proofs.UnitSteps.{restAfter}
+use Rattle.frames.proofs.UnitSteps.{restAfter, rests}
 use Rattle.frames.proofs.post.read_post_order.Needs as need
 
 pub returns-in-rest : need.returns-in-rest
@@ -49,7 +49,7 @@ returns-then-post-place c =
     let at = rests bs in
     let long : 2 ≤ length bs = omega (arith, ltb-false) in
     let e = post-refused bs (firstFault (postOrderChecks place bs)) (λ p. eqb p place) (postWhatField ∷ []) (reads-post-order place bs) (omega arith) (c .if-kind-ne-KIND .left) long
-    (ne-eqb (getD bs 1 0) place (λ s. c .if-post-place .taken (at .post ∙ s))) in
+    (ne-eqb (getD bs 1 0) place (λ s. c .if-post-place .taken (at .second ∙ s))) in
     record { fault = e; first = is-first _ _ e; value = tt }
 
 pub returns : need.returns
@@ -60,15 +60,15 @@ returns c =
     let rest = restAfter 1 (restAfter 1 bs) in
     let r = c .read-post-what .result in
     let long : 2 ≤ length bs = omega (arith, ltb-false) in
-    let here : getD bs 1 0 ≡ place = sym (at .post) ∙ c .if-post-place .left in
+    let here : getD bs 1 0 ≡ place = sym (at .second) ∙ c .if-post-place .left in
     let left = post-accepted bs (firstFault (postOrderChecks place bs)) (λ p. eqb p place) (postWhatField ∷ []) (reads-post-order place bs) (omega arith)
     (c .if-kind-ne-KIND .left) long (eq-eqb (getD bs 1 0) place here) in
     let e : errPart r ≡ firstFault (postOrderChecks place bs) =
-    c .read-post-what .ensures .fault ∙ ap (readingFault (postWhatField ∷ [])) (at .post-rest) ∙ sym left in
+    c .read-post-what .ensures .fault ∙ ap (readingFault (postWhatField ∷ [])) (at .second-rest) ∙ sym left in
     record {
       fault = e;
       first = is-first _ _ e;
       value =
           made-weaker r (λ o. postWhat o ∷ [] ≡ rest) (λ o. postOrderBytes place o ≡ bs)
-          (λ o v. order-back bs place (postWhat o ∷ []) long (c .if-kind-ne-KIND .left) (sym here) (v ∙ at .post-rest)) (c .read-post-what .ensures .value);
+          (λ o v. order-back bs place (postWhat o ∷ []) long (c .if-kind-ne-KIND .left) (sym here) (v ∙ at .second-rest)) (c .read-post-what .ensures .value);
     }

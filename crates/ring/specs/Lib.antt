@@ -1,0 +1,10 @@
+pub mod Numbers
+pub mod Machine
+pub mod Promise
+pub mod Tallies
+pub mod Events
+pub mod Disturbances
+pub mod Bound
+pub mod Scripts
+pub mod Plays
+pub mod Reports
