@@ -69,7 +69,11 @@ pub impl From<io::Error> for Stop as StopFromIo {
 }
 
 // Reads the next line that isn't passed over into `bytes`, and says how it ended; `None` at the end of the input. `lines` counts the lines that were read.
-pub fn next_unit<R: BufRead>(input: &mut R, bytes: &mut Vec<u8>, lines: &mut u64) -> Result<Option<Ending>, Stop>
+pub fn next_unit<R: BufRead>(
+    input: &mut R,
+    bytes: &mut Vec<u8>,
+    lines: &mut u64,
+) -> Result<Option<Ending>, Stop>
     ensures { λ r. ⌜ made r (λ o. found o (λ e. isBlank record { bytes = vec-items (now (bytes .exit)); ending = e } ≡ false)) ⌝ }
 {
     let mut text = Vec::new(bytes.allocator());

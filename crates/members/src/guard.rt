@@ -14,7 +14,11 @@ use crate::refusal::Refusal;
 pub(crate) fn one_up(own: u16, k: u16) -> u16
     ensures { λ r. ⌜ r ≡ up k own ⌝ }
 {
-    if own < k.saturating_sub(1) { own + 1 } else { 0 }
+    if own < k.saturating_sub(1) {
+        own + 1
+    } else {
+        0
+    }
 }
 
 // The guard of member `i`, by its own number and that of the one before.

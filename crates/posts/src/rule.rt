@@ -20,7 +20,11 @@ impl Memory {
     pub(crate) fn may_move(self, k: u16, place: u8) -> bool
         ensures { λ r. ⌜ r ≡ mayMove k place self ⌝ }
     {
-        guard_holds(usize::from(place), in_range(self.heard, k), in_range(self.number, k))
+        guard_holds(
+            usize::from(place),
+            in_range(self.heard, k),
+            in_range(self.number, k),
+        )
     }
 
     pub(crate) fn deeds(self, k: u16, place: u8, button: bool) -> Deeds

@@ -22,8 +22,9 @@ use Rattle.ring.proofs.PostMoves.{may-post, moves-is, sends-is, hears-is, fit-
 set-below : (n k : ℕ) (xs : List ℕ) (p v : ℕ) → length xs ≡ n → p < n → v < k → ((q : ℕ) → q < n → getD xs q 0 < k) → (q : ℕ) → q < n → getD (set xs p v) q 0 < k
 set-below n k xs p v e l b h q m =
     elim (cases-eq q p) [
-      inl z ↦ subst (λ w. w < k) (sym (ap (λ i. getD (set xs p v) i 0) z ∙ getD-set-same xs p v 0 (omega arith))) b
-    | inr d ↦ subst (λ w. w < k) (sym (getD-set-other xs p q v 0 d)) (h q m) ]
+      | inl z ↦ subst (λ w. w < k) (sym (ap (λ i. getD (set xs p v) i 0) z ∙ getD-set-same xs p v 0 (omega arith))) b
+      | inr d ↦ subst (λ w. w < k) (sym (getD-set-other xs p q v 0 d)) (h q m)
+    ]
 
 next-below : (k p b x : ℕ) → b < k → x < k → nextBy k p b x < k
 next-below k zero b x l m = up-below k x (omega arith)
@@ -31,30 +32,33 @@ next-below k (suc p) b x l m = l
 
 pub fit-moves : (n k : ℕ) (x : Numbers) → Fit n k x → (p : ℕ) → p < n → Fit n k (moves k p x)
 fit-moves n k x f p l = record {
-    owns = length-set (x .own) p _ ∙ f .owns;
-    sents = f .sents;
-    hearings = f .hearings;
-    own-below = set-below n k (x .own) p _ (f .owns) l (next-below k p _ _ (f .heard-below p l) (f .own-below p l)) (f .own-below);
-    sent-below = f .sent-below;
-    heard-below = f .heard-below }
+  owns = length-set (x .own) p _ ∙ f .owns;
+  sents = f .sents;
+  hearings = f .hearings;
+  own-below = set-below n k (x .own) p _ (f .owns) l (next-below k p _ _ (f .heard-below p l) (f .own-below p l)) (f .own-below);
+  sent-below = f .sent-below;
+  heard-below = f .heard-below;
+}
 
 pub fit-sends : (n k : ℕ) (x : Numbers) → Fit n k x → (p : ℕ) → p < n → Fit n k (sends p x)
 fit-sends n k x f p l = record {
-    owns = f .owns;
-    sents = length-set (x .sent) p _ ∙ f .sents;
-    hearings = f .hearings;
-    own-below = f .own-below;
-    sent-below = set-below n k (x .sent) p _ (f .sents) l (f .own-below p l) (f .sent-below);
-    heard-below = f .heard-below }
+  owns = f .owns;
+  sents = length-set (x .sent) p _ ∙ f .sents;
+  hearings = f .hearings;
+  own-below = f .own-below;
+  sent-below = set-below n k (x .sent) p _ (f .sents) l (f .own-below p l) (f .sent-below);
+  heard-below = f .heard-below;
+}
 
 pub fit-hears : (n k : ℕ) (x : Numbers) → Fit n k x → (p : ℕ) → p < n → Fit n k (hears n p x)
 fit-hears n k x f p l = record {
-    owns = f .owns;
-    sents = f .sents;
-    hearings = length-set (x .heard) p _ ∙ f .hearings;
-    own-below = f .own-below;
-    sent-below = f .sent-below;
-    heard-below = set-below n k (x .heard) p _ (f .hearings) l (f .sent-below (preceding n p) (preceding-below n p l)) (f .heard-below) }
+  owns = f .owns;
+  sents = f .sents;
+  hearings = length-set (x .heard) p _ ∙ f .hearings;
+  own-below = f .own-below;
+  sent-below = f .sent-below;
+  heard-below = set-below n k (x .heard) p _ (f .hearings) l (f .sent-below (preceding n p) (preceding-below n p l)) (f .heard-below);
+}
 
 -- from the numbers x to the numbers y the ring makes as many moves as numbers change
 abbrev pub Steps : ℕ → ℕ → Numbers → Numbers → Type 0
@@ -96,7 +100,7 @@ add-up n k x f p l =
     let a : at u (3 * p + 1) ≡ at s (3 * p + 1) = ap (λ z. at z (3 * p + 1)) e ∙ getD-set-other s (3 * p) (3 * p + 1) (next r s (3 * p)) 0 (omega arith) in
     let b : changed u (set u (3 * p + 1) w) ≡ cond (eqb (at u (3 * p + 1)) w) 0 1 = changed-one u (3 * p + 1) w (omega (arith, state-length n y)) in
     let c : changed s (set u (3 * p + 1) w) ≡ changed s u + cond (eqb (at s (3 * p + 1)) w) 0 1 =
-      changed-more s u (3 * p + 1) w (omega (arith, state-length n x)) (state-length n y ∙ sym (state-length n x)) a in
+    changed-more s u (3 * p + 1) w (omega (arith, state-length n x)) (state-length n y ∙ sym (state-length n x)) a in
     let d : _≡_ {A = ℕ} (cond (eqb (at u (3 * p + 1)) w) 0 1) (cond (eqb (at s (3 * p + 1)) w) 0 1) = ap (λ z. cond (eqb z w) 0 1) a in
     rw t (omega arith)
 

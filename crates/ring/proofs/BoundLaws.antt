@@ -43,12 +43,16 @@ healing-more r g s t y h q (Some c) a = (run-healed r g (run-state r g (h .start
 healing-more r g s t y h q None a =
     let w = run-state r g (h .start) (h .since) in
     elim (cases-eq (howMany r t (r .members)) 1) [
-      inl e ↦
-        rw (eq-eqb (howMany r t (r .members)) 1 e)
-        (e, elim (run-potential r g (h .start) (h .since)) [
-          inl b ↦ absurd (a b)
-        | inr p ↦ omega (arith, potential-least r g s w a, potential-most r g (h .from) (h .start)) ])
-    | inr d ↦ rw (ne-eqb (howMany r t (r .members)) 1 d) d ]
+      | inl e ↦
+          rw (eq-eqb (howMany r t (r .members)) 1 e) (
+            e,
+            elim (run-potential r g (h .start) (h .since)) [
+              | inl b ↦ absurd (a b)
+              | inr p ↦ omega (arith, potential-least r g s w a, potential-most r g (h .from) (h .start))
+            ],
+          )
+      | inr d ↦ rw (ne-eqb (howMany r t (r .members)) 1 d) d
+    ]
 
 held-move : (r : Ring) → Enough r → (s t : State) (y : Tally) → HeldTo r s y → Moves r s 1 t → HeldTo r t (oneMore (howMany r t (r .members)) y)
 held-move r g s t y h q =
@@ -58,25 +62,29 @@ held-move r g s t y h q =
       start = h .start;
       since = m;
       healing = healing-more r g s t y h q (y .healed) (h .healing);
-      in-time = λ b. main r g (h .from) (h .start) .heals (y .moves + 1) t m b }
+      in-time = λ b. main r g (h .from) (h .start) .heals (y .moves + 1) t m b;
+    }
 
 pub held-note : (r : Ring) → Enough r → (s t : State) (y : Tally) → HeldTo r s y → Single r s t → HeldTo r t (noted r s t y)
 unfolding noted
 held-note r g s t y h q =
     elim (cases-eq (changed s t) 0) [
-      inl e ↦
-        subst (HeldTo r t) (sym (cond-true _ y _ (eq-eqb (changed s t) 0 e))) (subst (λ u. HeldTo r u y) (no-moves r (q .moves) e) h)
-    | inr d ↦
-        let e : changed s t ≡ 1 = omega (arith, q .few) in
-        subst (HeldTo r t) (sym (cond-false _ y _ (ne-eqb (changed s t) 0 d))) (held-move r g s t y h (subst (λ n. Moves r s n t) e (q .moves))) ]
+      | inl e ↦
+          subst (HeldTo r t) (sym (cond-true _ y _ (eq-eqb (changed s t) 0 e))) (subst (λ u. HeldTo r u y) (no-moves r (q .moves) e) h)
+      | inr d ↦
+          let e : changed s t ≡ 1 = omega (arith, q .few) in
+          subst (HeldTo r t) (sym (cond-false _ y _ (ne-eqb (changed s t) 0 d))) (held-move r g s t y h (subst (λ n. Moves r s n t) e (q .moves)))
+    ]
 
 pub held-anew : (r : Ring) → Enough r → (t : State) → IsState r t → HeldTo r t (anew r t)
 unfolding anew
 held-anew r g t w = record {
-    from = t;
-    start = w;
-    since = none;
-    healing = elim (cases-eq (howMany r t (r .members)) 1) [
-      inl e ↦ rw (eq-eqb (howMany r t (r .members)) 1 e) (e, omega arith)
-    | inr d ↦ rw (ne-eqb (howMany r t (r .members)) 1 d) d ];
-    in-time = λ b. main r g t w .heals 0 t none b }
+  from = t;
+  start = w;
+  since = none;
+  healing = elim (cases-eq (howMany r t (r .members)) 1) [
+    | inl e ↦ rw (eq-eqb (howMany r t (r .members)) 1 e) (e, omega arith)
+    | inr d ↦ rw (ne-eqb (howMany r t (r .members)) 1 d) d
+  ];
+  in-time = λ b. main r g t w .heals 0 t none b;
+}

@@ -54,7 +54,8 @@ pub stepping : (r : Ring) → Enough r → (s : State) → IsState r s → (j : 
     Moves r s (changed s (moved r s (suc j))) (moved r s (suc j))
 stepping r g s w j l =
     elim (cases-bool (may r s (suc j))) [
-      inl e ↦ moving r g s w (suc j) l e
-    | inr e ↦
-      let q : moved r s (suc j) ≡ s = rests r s j e in
-      subst (λ t. Moves r s (changed s t) t) (sym q) (subst (λ n. Moves r s n s) (sym (changed-none s)) none) ]
+      | inl e ↦ moving r g s w (suc j) l e
+      | inr e ↦
+          let q : moved r s (suc j) ≡ s = rests r s j e in
+          subst (λ t. Moves r s (changed s t) t) (sym q) (subst (λ n. Moves r s n s) (sym (changed-none s)) none)
+    ]

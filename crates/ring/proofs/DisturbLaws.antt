@@ -33,7 +33,8 @@ anew-kept k s j v h g l b =
       big = rw e (g .big);
       wide = rw e (g .wide);
       below = below-set k s j v (g .below) b;
-      counted = ap (λ n. howMany (record { members = n; k = k }) (set s j v) n) (sym e) }
+      counted = ap (λ n. howMany (record { members = n; k = k }) (set s j v) n) (sym e);
+    }
 
 module _ (o : Settings) (m : Machine) (w : Whole (o .posts) m) (i : ℕ) (l : i < o .posts) where
   -- the numbers of a disturbed machine
@@ -45,9 +46,9 @@ module _ (o : Settings) (m : Machine) (w : Whole (o .posts) m) (i : ℕ) (l : i 
       let a = numberIn (o .k) x in
       let b = heardIn (o .k) x in
       ap (stateOf (o .posts)) (same-numbers
-        (set-map (λ (p : Post). numberIn (o .k) (p .memory)) (m .posts) i _ a refl)
-        refl
-        (set-map (λ (p : Post). heardIn (o .k) (p .memory)) (m .posts) i _ b refl)) ∙
+      (set-map (λ (p : Post). numberIn (o .k) (p .memory)) (m .posts) i _ a refl)
+      refl
+      (set-map (λ (p : Post). heardIn (o .k) (p .memory)) (m .posts) i _ b refl)) ∙
       (heard-set (o .posts) (record { own = set (y .own) i a; sent = y .sent; heard = y .heard }) i b l (f .hearings) ∙
       ap (λ t. set t (endBefore (o .posts) i) b) (own-set (o .posts) y i a l (f .owns)))
 

@@ -62,18 +62,19 @@ module _ (o : Settings) (m : Machine) (w : Whole (o .posts) m) (i : ℕ) (l : i 
       let v = postDoing o d (postAt m i) .memory .number in
       let n = state-length (o .posts) x in
       elim (cases-eq (changed s t) 0) [
-        inr z ↦ omega arith
-      | inl z ↦
-        let q : s ≡ t = changed-zero s t (n ∙ sym (state-length (o .posts) (numbersOf o (tickOf o i m)))) z in
-        let a : at t (3 * i) ≡ v = ap (λ u. at u (3 * i)) (tick-state o m w i l v refl) ∙ at-after v (d .sends) s (omega (arith, n)) in
-        let b : v ≡ next r s (3 * i) =
-          sym (norm-is (o .k) v (below-after o m w i l)) ∙ (taken o m w i l d ∙ (cond-true _ _ _ e ∙ sym (next-post (o .posts) (o .k) x i l))) in
-        let f : may r s (3 * i) ≡ true = may-post (o .posts) (o .k) x i l ∙ (sym (token-is o m w i l) ∙ and-left-true (hasToken o (postAt m i)) _ e) in
-        absurd (eqb-false (at s (3 * i)) (next r s (3 * i)) (differs r (enough o) s (3 * i) f) (ap (λ u. at u (3 * i)) q ∙ (a ∙ b))) ]
-      where
-        and-left-true : (a b : Bool) → (a && b) ≡ true → a ≡ true
-        and-left-true true b h = refl
-        and-left-true false b h = h
+        | inr z ↦ omega arith
+        | inl z ↦
+            let q : s ≡ t = changed-zero s t (n ∙ sym (state-length (o .posts) (numbersOf o (tickOf o i m)))) z in
+            let a : at t (3 * i) ≡ v = ap (λ u. at u (3 * i)) (tick-state o m w i l v refl) ∙ at-after v (d .sends) s (omega (arith, n)) in
+            let b : v ≡ next r s (3 * i) =
+            sym (norm-is (o .k) v (below-after o m w i l)) ∙ (taken o m w i l d ∙ (cond-true _ _ _ e ∙ sym (next-post (o .posts) (o .k) x i l))) in
+            let f : may r s (3 * i) ≡ true = may-post (o .posts) (o .k) x i l ∙ (sym (token-is o m w i l) ∙ and-left-true (hasToken o (postAt m i)) _ e) in
+            absurd (eqb-false (at s (3 * i)) (next r s (3 * i)) (differs r (enough o) s (3 * i) f) (ap (λ u. at u (3 * i)) q ∙ (a ∙ b)))
+      ]
+    where
+      and-left-true : (a b : Bool) → (a && b) ≡ true → a ≡ true
+      and-left-true true b h = refl
+      and-left-true false b h = h
 
 -- n ticks of a post after which it moves
 post-goes : (o : Settings) (i k n : ℕ) (m : Machine) → Whole (o .posts) m → i < o .posts → n < k → deedsIn o (afterTicks o n (postAt m i)) .moves ≡ true → 1 ≤ movesIn o (replicate k (tick i)) m
@@ -123,10 +124,10 @@ module _ (o : Settings) (m : Machine) (w : Whole (o .posts) m) (i : ℕ) (l : i 
       let a : numberIn (o .k) (postDoing o d p .memory) ≡ numberIn (o .k) (p .memory) = doing-number (o .k) (p .place) d (p .memory) (positive o) ∙ cond-false _ _ _ (or-left (d .moves) _ e) in
       line-after ∙ (ap (λ b. sentOn (cond b (Some (frameOf o (postDoing o d p))) None) (lineAt m i)) e ∙ (h ∙
       ap (λ z. record { frame = frameBytes i z; lost = false }) (sym (ap (λ (z : Post). numberIn (o .k) (z .memory)) (number-after o m w i l) ∙ a))))
-      where
-        or-left : (a b : Bool) → (a || b) ≡ false → a ≡ false
-        or-left true b z = z
-        or-left false b z = refl
+    where
+      or-left : (a b : Bool) → (a || b) ≡ false → a ≡ false
+      or-left true b z = z
+      or-left false b z = refl
 
   carries-stays : Carries o i m → Carries o i (tickOf o i m)
   carries-stays h = elim (cases-bool (deedsIn o (postAt m i) .sends)) [ inl e ↦ tick-carries e | inr e ↦ tick-keeps e h ]
@@ -138,10 +139,10 @@ module _ (o : Settings) (m : Machine) (w : Whole (o .posts) m) (i : ℕ) (l : i 
       let q : postAt (tickOf o i m) i .memory .wait ≡ min (p .memory .wait) 3 - 1 = ap (λ (z : Post). z .memory .wait) (number-after o m w i l) ∙ cond-false _ _ _ e in
       let z : p .memory .wait ≡ 0 → ⊥ = eqb-false (p .memory .wait) 0 (or-right (deedsIn o p .moves) _ e) in
       omega (arith, q, z)
-      where
-        or-right : (a b : Bool) → (a || b) ≡ false → b ≡ false
-        or-right true b z = absurd (true≢false z)
-        or-right false b z = z
+    where
+      or-right : (a b : Bool) → (a || b) ≡ false → b ≡ false
+      or-right true b z = absurd (true≢false z)
+      or-right false b z = z
 
 still-carries : (o : Settings) (i k : ℕ) (m : Machine) → Whole (o .posts) m → i < o .posts → Carries o i m → Carries o i (run o (replicate k (tick i)) m)
 unfolding run step
@@ -153,8 +154,9 @@ unfolding run step
 carries-within o i zero m w l h = absurd (omega arith)
 carries-within o i (suc k) m w l h =
     elim (cases-bool (deedsIn o (postAt m i) .sends)) [
-      inl e ↦ still-carries o i k (tickOf o i m) (step-whole o (tick i) m w l) l (tick-carries o m w i l e)
-    | inr e ↦ carries-within o i k (tickOf o i m) (step-whole o (tick i) m w l) l (omega (arith, fewer o m w i l e)) ]
+      | inl e ↦ still-carries o i k (tickOf o i m) (step-whole o (tick i) m w l) l (tick-carries o m w i l e)
+      | inr e ↦ carries-within o i k (tickOf o i m) (step-whole o (tick i) m w l) l (omega (arith, fewer o m w i l e))
+    ]
 
 among-ticks : (n i k : ℕ) → i < n → Among n (replicate k (tick i))
 unfolding Among
@@ -185,11 +187,12 @@ by-frame o m w i l c =
     let es = replicate 4 (tick i) in
     let a = among-ticks (o .posts) i 4 l in
     elim (cases-eq (movesIn o es m) 0) [
-      inr z ↦ omega arith
-    | inl z ↦
-      let e = unmoved o m w es a z in
-      let h = carries-frame o i (run o es m) (run-whole o es m w a) l (four-carry o m w i l) in
-      absurd (may-not (ringOfSettings o) (stateIn o m) (3 * i) (subst (λ j. at (stateIn o m) j ≡ at (stateIn o m) (3 * i)) (add-one (3 * i)) (subst (λ s. at s (3 * i + 1) ≡ at s (3 * i)) (sym e) h)) (subst (λ j. T (may (ringOfSettings o) (stateIn o m) j)) (add-one (3 * i)) c)) ]
+      | inr z ↦ omega arith
+      | inl z ↦
+          let e = unmoved o m w es a z in
+          let h = carries-frame o i (run o es m) (run-whole o es m w a) l (four-carry o m w i l) in
+          absurd (may-not (ringOfSettings o) (stateIn o m) (3 * i) (subst (λ j. at (stateIn o m) j ≡ at (stateIn o m) (3 * i)) (add-one (3 * i)) (subst (λ s. at s (3 * i + 1) ≡ at s (3 * i)) (sym e) h)) (subst (λ j. T (may (ringOfSettings o) (stateIn o m) j)) (add-one (3 * i)) c))
+    ]
 
 -- the next post hears it
 
@@ -218,9 +221,9 @@ module _ (o : Settings) (m : Machine) (w : Whole (o .posts) m) (i : ℕ) (l : i 
   accepted =
       let q = postAt m j in
       let f : firstFault (frameChecks (o .posts) (o .k) (q .place) (lineAt m (preceding (o .posts) j) .frame)) ≡ None =
-        ap (λ (z : Line). firstFault (frameChecks (o .posts) (o .k) (q .place) (z .frame))) frame-here ∙
-        (ap (λ p. firstFault (frameChecks (o .posts) (o .k) p (frameBytes i x))) (w .placed j nobody below) ∙
-        frame-accepted (o .posts) (o .k) i x j below (sender-is (o .posts) j ∙ back) (norm-below (o .k) _ (positive o))) in
+      ap (λ (z : Line). firstFault (frameChecks (o .posts) (o .k) (q .place) (z .frame))) frame-here ∙
+      (ap (λ p. firstFault (frameChecks (o .posts) (o .k) p (frameBytes i x))) (w .placed j nobody below) ∙
+      frame-accepted (o .posts) (o .k) i x j below (sender-is (o .posts) j ∙ back) (norm-below (o .k) _ (positive o))) in
       ap (λ z. hearBy z o (lineAt m (preceding (o .posts) j) .frame) q .1 .refuses) f
 
   heard-so : stateIn o (hearOf o j m) ≡ set (stateIn o m) (3 * i + 2) x
@@ -255,16 +258,18 @@ by-end o m w i l c =
     let a = among-append (o .posts) ts (hear j ∷ []) b (up-below (o .posts) i (omega arith), tt) in
     let q : 3 * i + 2 ≡ suc (3 * i + 1) = omega arith in
     elim (cases-eq (movesIn o (ts ++ hear j ∷ []) m) 0) [
-      inr z ↦ omega arith
-    | inl z ↦
-      let e = unmoved o m w (ts ++ hear j ∷ []) a z ∙ ap (stateIn o) (run-append o ts (hear j ∷ []) m) in
-      let h = hear-frame o (run o ts m) (run-whole o ts m w b) i l (four-carry o m w i l) in
-      let k = subst (λ s. at s (3 * i + 2) ≡ at s (3 * i + 1)) (sym e) h in
-      absurd (may-not (ringOfSettings o) (stateIn o m) (3 * i + 1) (subst (λ n. at (stateIn o m) n ≡ at (stateIn o m) (3 * i + 1)) q k) (subst (λ n. T (may (ringOfSettings o) (stateIn o m) n)) q c)) ]
+      | inr z ↦ omega arith
+      | inl z ↦
+          let e = unmoved o m w (ts ++ hear j ∷ []) a z ∙ ap (stateIn o) (run-append o ts (hear j ∷ []) m) in
+          let h = hear-frame o (run o ts m) (run-whole o ts m w b) i l (four-carry o m w i l) in
+          let k = subst (λ s. at s (3 * i + 2) ≡ at s (3 * i + 1)) (sym e) h in
+          absurd (may-not (ringOfSettings o) (stateIn o m) (3 * i + 1) (subst (λ n. at (stateIn o m) n ≡ at (stateIn o m) (3 * i + 1)) q k) (subst (λ n. T (may (ringOfSettings o) (stateIn o m) n)) q c))
+    ]
 
 pub progress : Progress
 progress o m w = record {
-    some-may = never-still (ringOfSettings o) (enough o) (stateIn o m) (machine-state o m w);
-    by-post = by-post o m w;
-    by-frame = by-frame o m w;
-    by-end = by-end o m w }
+  some-may = never-still (ringOfSettings o) (enough o) (stateIn o m) (machine-state o m w);
+  by-post = by-post o m w;
+  by-frame = by-frame o m w;
+  by-end = by-end o m w;
+}

@@ -29,9 +29,10 @@ machine-state o m w = fit-state (o .posts) (o .k) (numbersOf o m) (machine-fit o
 
 pub orderly : (o : Settings) (m : Machine) → Whole (o .posts) m → HealedIn o m → Orderly o m
 orderly o m w h = record {
-    stays = λ es a. run-healed (ringOfSettings o) (enough o) (machine-state o m w) h (refines o m w es a);
-    in-turn = λ es a q. main (ringOfSettings o) (enough o) (stateIn o m) (machine-state o m w) .stays 0 _ (stateIn o m) _ none h q .1;
-    each-once = λ es a q i l. each-once (ringOfSettings o) (enough o) (stateIn o m) _ (machine-state o m w) h q i l }
+  stays = λ es a. run-healed (ringOfSettings o) (enough o) (machine-state o m w) h (refines o m w es a);
+  in-turn = λ es a q. main (ringOfSettings o) (enough o) (stateIn o m) (machine-state o m w) .stays 0 _ (stateIn o m) _ none h q .1;
+  each-once = λ es a q i l. each-once (ringOfSettings o) (enough o) (stateIn o m) _ (machine-state o m w) h q i l;
+}
 
 pub heals : Heals
 heals o m w es a b =
@@ -57,8 +58,9 @@ speaks-still o m i e = grind (arith, tells)
 other-rests : (o : Settings) (m : Machine) (i j : ℕ) → Alone (ringOfSettings o) (stateIn o m) (3 * i) → suc j < 3 * o .posts → suc j ≢ 3 * i → moved (ringOfSettings o) (stateIn o m) (suc j) ≡ stateIn o m
 other-rests o m i j a l d =
     elim (cases-bool (may (ringOfSettings o) (stateIn o m) (suc j))) [
-      inl e ↦ absurd (d (a .others (suc j) l (subst T (sym e) tt)))
-    | inr e ↦ rests (ringOfSettings o) (stateIn o m) j e ]
+      | inl e ↦ absurd (d (a .others (suc j) l (subst T (sym e) tt)))
+      | inr e ↦ rests (ringOfSettings o) (stateIn o m) j e
+    ]
 
 module _ (o : Settings) (m : Machine) (w : Whole (o .posts) m) (i : ℕ) (a : Alone (ringOfSettings o) (stateIn o m) (3 * i)) where
   -- post j sends and doesn't move
@@ -78,22 +80,24 @@ module _ (o : Settings) (m : Machine) (w : Whole (o .posts) m) (i : ℕ) (a : Al
   unfolding step
   still-hear j l =
       elim (hear-numbers o m w j l) [
-        inl e ↦ ap (stateOf (o .posts)) e
-      | inr e ↦
-        let b = preceding-below (o .posts) j l in
-        let q : endBefore (o .posts) j ≡ suc (3 * preceding (o .posts) j + 1) = omega arith in
-        let d : suc (3 * preceding (o .posts) j + 1) ≢ 3 * i = omega arith in
-        ap (stateOf (o .posts)) e ∙ (hears-is (o .posts) (o .k) (numbersOf o m) (machine-fit o m w) j l ∙ rw q (other-rests o m i (3 * preceding (o .posts) j + 1) a (omega arith) d)) ]
+        | inl e ↦ ap (stateOf (o .posts)) e
+        | inr e ↦
+            let b = preceding-below (o .posts) j l in
+            let q : endBefore (o .posts) j ≡ suc (3 * preceding (o .posts) j + 1) = omega arith in
+            let d : suc (3 * preceding (o .posts) j + 1) ≢ 3 * i = omega arith in
+            ap (stateOf (o .posts)) e ∙ (hears-is (o .posts) (o .k) (numbersOf o m) (machine-fit o m w) j l ∙ rw q (other-rests o m i (3 * preceding (o .posts) j + 1) a (omega arith) d))
+      ]
 
   -- an event in which post i doesn't move changes no number
   pub still : (e : Event) → postOf e < o .posts → (e ≡ tick i → deedsIn o (postAt m i) .moves ≡ false) → stateIn o (step o e m) ≡ stateIn o m
   unfolding step
   still (tick j) l h =
       elim (cases-bool (deedsIn o (postAt m j) .moves)) [
-        inl e ↦
-          let q : j ≡ i = let p : 3 * j ≡ 3 * i = a .others (3 * j) (omega arith) (moves-token o m w j l e) in omega arith in
-          absurd (both-ways (deedsIn o (postAt m i) .moves) (h (ap tick q)) (subst (λ z. deedsIn o (postAt m z) .moves ≡ true) q e))
-      | inr e ↦ still-tick j l e ]
+        | inl e ↦
+            let q : j ≡ i = let p : 3 * j ≡ 3 * i = a .others (3 * j) (omega arith) (moves-token o m w j l e) in omega arith in
+            absurd (both-ways (deedsIn o (postAt m i) .moves) (h (ap tick q)) (subst (λ z. deedsIn o (postAt m z) .moves ≡ true) q e))
+        | inr e ↦ still-tick j l e
+      ]
   still (hear j) l h = still-hear j l
   still (lose j) l h = ap (stateOf (o .posts)) (lose-numbers o m w j l)
   still (press j) l h = ap (stateOf (o .posts)) (button-numbers o m w j l true)
@@ -107,18 +111,20 @@ silent o i (e ∷ es) m w a n t =
     let s : stateIn o (step o e m) ≡ stateIn o m = still o m w i a e (n .0) (λ q. absurd (ticks q)) in
     let r = silent o i es (step o e m) (step-whole o e m w (n .0)) (subst (λ z. Alone (ringOfSettings o) z (3 * i)) (sym s) a) (n .1) (omega arith) in
     omega (arith, r, mute e (n .0) (omega arith))
-    where
-      ticks : e ≡ tick i → ⊥
-      ticks q = let z : ticksOne i e ≡ 1 = ap (ticksOne i) q ∙ grind (arith, tells) in omega arith
-      mute : (f : Event) → postOf f < o .posts → ticksOne i f ≡ 0 → _≡_ {A = ℕ} (cond (speaksAt o f m) 1 0) 0
-      mute (tick j) l z =
-          elim (cases-bool (deedsIn o (postAt m j) .speaks)) [
-            inl b ↦ absurd (let p : 3 * j ≡ 3 * i = a .others (3 * j) (omega arith) (speaks-token o m w j l b) in let q : i ≡ j = omega arith in grind (arith, tells))
-          | inr b ↦ ap (λ x. cond x 1 0) b ]
-      mute (hear j) l z = refl
-      mute (lose j) l z = refl
-      mute (press j) l z = refl
-      mute (release j) l z = refl
+  where
+    ticks : e ≡ tick i → ⊥
+    ticks q = let z : ticksOne i e ≡ 1 = ap (ticksOne i) q ∙ grind (arith, tells) in omega arith
+
+    mute : (f : Event) → postOf f < o .posts → ticksOne i f ≡ 0 → _≡_ {A = ℕ} (cond (speaksAt o f m) 1 0) 0
+    mute (tick j) l z =
+        elim (cases-bool (deedsIn o (postAt m j) .speaks)) [
+          | inl b ↦ absurd (let p : 3 * j ≡ 3 * i = a .others (3 * j) (omega arith) (speaks-token o m w j l b) in let q : i ≡ j = omega arith in grind (arith, tells))
+          | inr b ↦ ap (λ x. cond x 1 0) b
+        ]
+    mute (hear j) l z = refl
+    mute (lose j) l z = refl
+    mute (press j) l z = refl
+    mute (release j) l z = refl
 
 pub quiet-token : (o : Settings) (m : Machine) → Whole (o .posts) m → HealedIn o m → (i : ℕ) → i < o .posts → deedsIn o (postAt m i) .speaks ≡ true → Alone (ringOfSettings o) (stateIn o m) (3 * i)
 quiet-token o m w h i l e = alone (ringOfSettings o) (stateIn o m) h (3 * i) (omega arith) (speaks-token o m w i l e)
@@ -133,14 +139,15 @@ first-speaks : (o : Settings) (e : Event) (es : List Event) (m : Machine) → Wh
 unfolding speakings ticksOf Among
 first-speaks o (tick i) es m w h n t r =
     elim (cases-bool (deedsIn o (postAt m i) .speaks)) [
-      inl b ↦
-        let a = quiet-token o m w h i (n .0) b in
-        let s : stateIn o (step o (tick i) m) ≡ stateIn o m = still o m w i a (tick i) (n .0) (λ q. speaks-still o m i b) in
-        let c : _≡_ {A = ℕ} (cond (eqb i i) 1 0) 1 = grind (arith, tells) in
-        let z : ticksOf i es ≡ 0 = omega (arith, t i) in
-        let q = silent o i es (step o (tick i) m) (step-whole o (tick i) m w (n .0)) (subst (λ x. Alone (ringOfSettings o) x (3 * i)) (sym s) a) (n .1) z in
-        rw b (omega arith)
-    | inr b ↦ rw b (omega arith) ]
+      | inl b ↦
+          let a = quiet-token o m w h i (n .0) b in
+          let s : stateIn o (step o (tick i) m) ≡ stateIn o m = still o m w i a (tick i) (n .0) (λ q. speaks-still o m i b) in
+          let c : _≡_ {A = ℕ} (cond (eqb i i) 1 0) 1 = grind (arith, tells) in
+          let z : ticksOf i es ≡ 0 = omega (arith, t i) in
+          let q = silent o i es (step o (tick i) m) (step-whole o (tick i) m w (n .0)) (subst (λ x. Alone (ringOfSettings o) x (3 * i)) (sym s) a) (n .1) z in
+          rw b (omega arith)
+      | inr b ↦ rw b (omega arith)
+    ]
 first-speaks o (hear i) es m w h n t r = omega arith
 first-speaks o (lose i) es m w h n t r = omega arith
 first-speaks o (press i) es m w h n t r = omega arith

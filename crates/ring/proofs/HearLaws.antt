@@ -48,10 +48,10 @@ accepted-none (Some h) o bytes p e = cc
 -- no line changes
 pub hear-lines : (o : Settings) (m : Machine) (i : ℕ) → m .lines ≡ hearOf o i m .lines
 hear-lines o m i = either (lineAt m (preceding (o .posts) i) .lost) _
-    where
-      either : (b : Bool) (ps : List Post) → m .lines ≡ cond b m (record { posts = ps; lines = m .lines }) .lines
-      either true ps = refl
-      either false ps = refl
+  where
+    either : (b : Bool) (ps : List Post) → m .lines ≡ cond b m (record { posts = ps; lines = m .lines }) .lines
+    either true ps = refl
+    either false ps = refl
 
 module _ (o : Settings) (m : Machine) (w : Whole (o .posts) m) (i : ℕ) (l : i < o .posts) where
   -- a machine in which nothing was heard
@@ -62,10 +62,10 @@ module _ (o : Settings) (m : Machine) (w : Whole (o .posts) m) (i : ℕ) (l : i 
   same-after-refused g e =
       let q = refused-same (firstFault (frameChecks (o .posts) (o .k) (postAt m i .place) (lineAt m (preceding (o .posts) i) .frame))) o _ (postAt m i) g e in
       either (lineAt m (preceding (o .posts) i) .lost) (ap (set (m .posts) i) q ∙ set-getD (m .posts) i nobody)
-      where
-        either : (b : Bool) → {ps : List Post} → ps ≡ m .posts → cond b m (record { posts = ps; lines = m .lines }) ≡ m
-        either true e = refl
-        either false e = ap (λ ps. record { posts = ps; lines = m .lines }) e
+    where
+      either : (b : Bool) → {ps : List Post} → ps ≡ m .posts → cond b m (record { posts = ps; lines = m .lines }) ≡ m
+      either true e = refl
+      either false e = ap (λ ps. record { posts = ps; lines = m .lines }) e
 
   pub machine-heard : lineAt m (preceding (o .posts) i) .lost ≡ false → hearOf o i m ≡ record { posts = set (m .posts) i (hearStep o (lineAt m (preceding (o .posts) i) .frame) (postAt m i) .0); lines = m .lines }
   machine-heard b = cond-false _ _ _ b
@@ -82,7 +82,7 @@ module _ (o : Settings) (m : Machine) (w : Whole (o .posts) m) (i : ℕ) (l : i 
         let bytes = lineAt m p .frame in
         let q = accepted-none (firstFault (frameChecks (o .posts) (o .k) (postAt m i .place) bytes)) o bytes (postAt m i) a in
         let c : hearOf o i m ≡ record { posts = set (m .posts) i (hearBy None o bytes (postAt m i) .0); lines = m .lines } =
-          cond-false _ _ _ b ∙ ap (λ f. record { posts = set (m .posts) i (hearBy f o bytes (postAt m i) .0); lines = m .lines }) q in
+        cond-false _ _ _ b ∙ ap (λ f. record { posts = set (m .posts) i (hearBy f o bytes (postAt m i) .0); lines = m .lines }) q in
         let s : getD (numbersOf o m .sent) p 0 ≡ v = numbers-sent o (o .posts) m w p (preceding-below (o .posts) i l) ∙ (ap (norm (o .k)) e ∙ norm-is (o .k) v z) in
         ap (stateIn o) c ∙ (ap (stateOf (o .posts)) (heard-numbers o m w i l) ∙
         (ap (λ x. stateOf (o .posts) (record { own = numbersOf o m .own; sent = numbersOf o m .sent; heard = set (numbersOf o m .heard) i x })) s ∙

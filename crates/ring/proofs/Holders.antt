@@ -28,14 +28,16 @@ two-differ r s t a b zero d h = grind (arith, tells)
 two-differ r s t a b (suc n) d h =
     let i = two-differ r s t a b n d (λ j l p q. h j (omega arith) p q) in
     elim (cases-eq n a) [
-      inl e ↦ let f : _≡_ {A = ℕ} (cond (may r s n) 1 0) (cond (may r s a) 1 0) = ap (λ z. cond (may r s z) 1 0) e in
-              let g : _≡_ {A = ℕ} (cond (may r t n) 1 0) (cond (may r t a) 1 0) = ap (λ z. cond (may r t z) 1 0) e in
-              grind (arith, tells)
-    | inr p ↦ elim (cases-eq n b) [
-        inl e ↦ let f : _≡_ {A = ℕ} (cond (may r s n) 1 0) (cond (may r s b) 1 0) = ap (λ z. cond (may r s z) 1 0) e in
-                let g : _≡_ {A = ℕ} (cond (may r t n) 1 0) (cond (may r t b) 1 0) = ap (λ z. cond (may r t z) 1 0) e in
-                grind (arith, tells)
-      | inr q ↦ let f : _≡_ {A = ℕ} (cond (may r t n) 1 0) (cond (may r s n) 1 0) = ap (λ z. cond z 1 0) (h n (omega arith) p q) in grind (arith, tells) ] ]
+      | inl e ↦ let f : _≡_ {A = ℕ} (cond (may r s n) 1 0) (cond (may r s a) 1 0) = ap (λ z. cond (may r s z) 1 0) e in
+          let g : _≡_ {A = ℕ} (cond (may r t n) 1 0) (cond (may r t a) 1 0) = ap (λ z. cond (may r t z) 1 0) e in
+          grind (arith, tells)
+      | inr p ↦ elim (cases-eq n b) [
+        | inl e ↦ let f : _≡_ {A = ℕ} (cond (may r s n) 1 0) (cond (may r s b) 1 0) = ap (λ z. cond (may r s z) 1 0) e in
+            let g : _≡_ {A = ℕ} (cond (may r t n) 1 0) (cond (may r t b) 1 0) = ap (λ z. cond (may r t z) 1 0) e in
+            grind (arith, tells)
+        | inr q ↦ let f : _≡_ {A = ℕ} (cond (may r t n) 1 0) (cond (may r s n) 1 0) = ap (λ z. cond z 1 0) (h n (omega arith) p q) in grind (arith, tells)
+      ]
+    ]
 
 pub shifted : (r : Ring) (s : State) (j v : ℕ) → 2 < r .members → j < r .members →
     howMany r (set s j v) (r .members) + heldNear r s j ≡ howMany r s (r .members) + heldNear r (set s j v) j
@@ -74,8 +76,9 @@ noted-none r s y = cond-true (eqb (changed s s) 0) _ _ (eq-eqb (changed s s) 0 (
 pub noted-moves : (r : Ring) (s t : State) (y : Tally) → noted r s t y .moves ≤ y .moves + 1
 unfolding noted
 noted-moves r s t y = elim (cases-eq (changed s t) 0) [
-      inl q ↦ rw (eq-eqb (changed s t) 0 q) (omega arith)
-    | inr d ↦ rw (ne-eqb (changed s t) 0 d) (omega arith) ]
+  | inl q ↦ rw (eq-eqb (changed s t) 0 q) (omega arith)
+  | inr d ↦ rw (ne-eqb (changed s t) 0 d) (omega arith)
+]
 
 pub noted-ap : {r q : Ring} {s t u v : State} {y z : Tally} → r ≡ q → s ≡ t → u ≡ v → y ≡ z → noted r s u y ≡ noted q t v z
 noted-ap {r} {q} {s} {t} {u} {v} {y} {z} a b c d = cc

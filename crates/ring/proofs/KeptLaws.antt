@@ -49,8 +49,9 @@ noted-holders : (r : Ring) (s t : State) (y : Tally) → length s ≡ length t �
 unfolding noted
 noted-holders r s t y l h =
     elim (cases-eq (changed s t) 0) [
-      inl e ↦ ap (λ z. z .holders) (cond-true _ y (oneMore (howMany r t (r .members)) y) (eq-eqb (changed s t) 0 e)) ∙ (h ∙ ap (λ u. howMany r u (r .members)) (changed-zero s t l e))
-    | inr d ↦ ap (λ z. z .holders) (cond-false _ y (oneMore (howMany r t (r .members)) y) (ne-eqb (changed s t) 0 d)) ]
+      | inl e ↦ ap (λ z. z .holders) (cond-true _ y (oneMore (howMany r t (r .members)) y) (eq-eqb (changed s t) 0 e)) ∙ (h ∙ ap (λ u. howMany r u (r .members)) (changed-zero s t l e))
+      | inr d ↦ ap (λ z. z .holders) (cond-false _ y (oneMore (howMany r t (r .members)) y) (ne-eqb (changed s t) 0 d))
+    ]
 
 -- what a post does is one member's move, or none
 
@@ -95,13 +96,14 @@ module _ (o : Settings) (m : Machine) (w : Whole (o .posts) m) (i : ℕ) (l : i 
       let d = deedsIn o (postAt m i) in
       subst (λ s. Single (ringOfSettings o) s (stateIn o (tickOf o i m))) (sym midway-acts)
       (subst (Single (ringOfSettings o) _) (sym (ap (stateOf (o .posts)) (doing-numbers o m w i l d)))
-        (single-second (o .posts) (o .k) (enough o) (numbersOf o m) (machine-fit o m w) i l (d .moves) (d .sends)))
+      (single-second (o .posts) (o .k) (enough o) (numbersOf o m) (machine-fit o m w) i l (d .moves) (d .sends)))
 
   hear-single : Single (ringOfSettings o) (stateIn o m) (stateIn o (hearOf o i m))
   hear-single =
       elim (hear-numbers o m w i l) [
-        inl e ↦ subst (λ x. Single (ringOfSettings o) (stateIn o m) (stateOf (o .posts) x)) (sym e) (single-none (ringOfSettings o) (stateIn o m))
-      | inr e ↦ subst (λ x. Single (ringOfSettings o) (stateIn o m) (stateOf (o .posts) x)) (sym e) (single-hears (o .posts) (o .k) (enough o) (numbersOf o m) (machine-fit o m w) i l) ]
+        | inl e ↦ subst (λ x. Single (ringOfSettings o) (stateIn o m) (stateOf (o .posts) x)) (sym e) (single-none (ringOfSettings o) (stateIn o m))
+        | inr e ↦ subst (λ x. Single (ringOfSettings o) (stateIn o m) (stateOf (o .posts) x)) (sym e) (single-hears (o .posts) (o .k) (enough o) (numbersOf o m) (machine-fit o m w) i l)
+      ]
 
 pub sound-kept : (o : Settings) (m : Machine) (s : State) (y : Tally) → Sound o m y → s ≡ stateIn o m → Kept o m s y
 sound-kept o m s y h e = record { whole = h .whole; same = e; counted = h .counted ∙ ap (λ t. howMany (ringOfSettings o) t (3 * o .posts)) (sym e) }
@@ -109,9 +111,10 @@ sound-kept o m s y h e = record { whole = h .whole; same = e; counted = h .count
 -- a machine whose numbers are as before
 unmoved : (o : Settings) (m n : Machine) (y : Tally) → Sound o m y → Whole (o .posts) n → numbersOf o n ≡ numbersOf o m → Sound o n y
 unmoved o m n y h w e = record {
-    whole = w;
-    counted = h .counted ∙ ap (λ x. howMany (ringOfSettings o) (stateOf (o .posts) x) (3 * o .posts)) (sym e);
-    held = subst (λ x. HeldTo (ringOfSettings o) (stateOf (o .posts) x) y) (sym e) (h .held) }
+  whole = w;
+  counted = h .counted ∙ ap (λ x. howMany (ringOfSettings o) (stateOf (o .posts) x) (3 * o .posts)) (sym e);
+  held = subst (λ x. HeldTo (ringOfSettings o) (stateOf (o .posts) x) y) (sym e) (h .held);
+}
 
 pub sound-event : (o : Settings) (e : Event) (m : Machine) (y : Tally) → Sound o m y → postOf e < o .posts → Sound o (step o e m) (tallied o e m y)
 unfolding tallied step
@@ -125,13 +128,15 @@ sound-event o (tick i) m y h l =
     record {
       whole = step-whole o (tick i) m w l;
       counted = noted-holders r (midway o i m) (stateIn o (tickOf o i m)) z (b ∙ sym c) (noted-holders r (stateIn o m) (midway o i m) y (a ∙ sym b) (h .counted));
-      held = held-note r (enough o) (midway o i m) (stateIn o (tickOf o i m)) z (held-note r (enough o) (stateIn o m) (midway o i m) y (h .held) (tick-first o m w i l)) (tick-second o m w i l) }
+      held = held-note r (enough o) (midway o i m) (stateIn o (tickOf o i m)) z (held-note r (enough o) (stateIn o m) (midway o i m) y (h .held) (tick-first o m w i l)) (tick-second o m w i l);
+    }
 sound-event o (hear i) m y h l =
     let r = ringOfSettings o in
     record {
       whole = step-whole o (hear i) m (h .whole) l;
       counted = noted-holders r (stateIn o m) (stateIn o (hearOf o i m)) y (state-length (o .posts) (numbersOf o m) ∙ sym (state-length (o .posts) (numbersOf o (hearOf o i m)))) (h .counted);
-      held = held-note r (enough o) (stateIn o m) (stateIn o (hearOf o i m)) y (h .held) (hear-single o m (h .whole) i l) }
+      held = held-note r (enough o) (stateIn o m) (stateIn o (hearOf o i m)) y (h .held) (hear-single o m (h .whole) i l);
+    }
 sound-event o (lose i) m y h l = unmoved o m _ y h (step-whole o (lose i) m (h .whole) l) (lose-numbers o m (h .whole) i l)
 sound-event o (press i) m y h l = unmoved o m _ y h (step-whole o (press i) m (h .whole) l) (button-numbers o m (h .whole) i l true)
 sound-event o (release i) m y h l = unmoved o m _ y h (step-whole o (release i) m (h .whole) l) (button-numbers o m (h .whole) i l false)
@@ -143,9 +148,10 @@ sound-anew o m w = record { whole = w; counted = refl; held = held-anew (ringOfS
 
 pub memory-whole : (o : Settings) (i : ℕ) (x : Memory) (m : Machine) → Whole (o .posts) m → i < o .posts → Whole (o .posts) (memoryBecomes i x m)
 memory-whole o i x m w l = record {
-    post-count = length-set (m .posts) i _ ∙ w .post-count;
-    line-count = w .line-count;
-    placed = placed-set (o .posts) (m .posts) i _ (w .post-count) (w .placed) l refl }
+  post-count = length-set (m .posts) i _ ∙ w .post-count;
+  line-count = w .line-count;
+  placed = placed-set (o .posts) (m .posts) i _ (w .post-count) (w .placed) l refl;
+}
 
 pub frame-whole : (o : Settings) (i : ℕ) (bytes : List ℕ) (m : Machine) → Whole (o .posts) m → i < o .posts → Whole (o .posts) (frameBecomes i bytes m)
 frame-whole o i bytes m w l = record { post-count = w .post-count; line-count = length-set (m .lines) i _ ∙ w .line-count; placed = w .placed }

@@ -101,7 +101,7 @@ module _ (o : Settings) (m : Machine) (w : Whole (o .posts) m) (i : ℕ) (l : i 
   taken d =
       rw (numbers-heard o (o .posts) m w i l, numbers-own o (o .posts) m w i l)
       (subst (λ p. numberIn (o .k) (tickDoing (o .k) (postAt m i .place) d (postAt m i .memory)) ≡ cond (d .moves) (nextBy (o .k) p (heardIn (o .k) (postAt m i .memory)) (numberIn (o .k) (postAt m i .memory))) (numberIn (o .k) (postAt m i .memory)))
-        (w .placed i nobody l) (doing-number (o .k) (postAt m i .place) d (postAt m i .memory) (positive o)))
+      (w .placed i nobody l) (doing-number (o .k) (postAt m i .place) d (postAt m i .memory) (positive o)))
 
   -- a tick with any choice of moving and sending
   pub doing-numbers : (d : Deeds) → numbersOf o (tickDoingOf o d i m) ≡ acts (o .k) i (d .moves) (d .sends) (numbersOf o m)
@@ -112,9 +112,9 @@ module _ (o : Settings) (m : Machine) (w : Whole (o .posts) m) (i : ℕ) (l : i 
       let b : v < o .k = norm-below (o .k) _ (positive o) in
       let c : norm (o .k) (numberCarried (frameBytes (q .place) v)) ≡ v = ap (norm (o .k)) (carried (q .place) v) ∙ norm-is (o .k) v b in
       same-numbers
-        (set-map (λ (p : Post). numberIn (o .k) (p .memory)) (m .posts) i _ v refl)
-        (line-after o (d .sends) (frameBytes (q .place) v) (m .lines) i v (omega (arith, w .line-count)) c)
-        (keep-map (λ (p : Post). heardIn (o .k) (p .memory)) (m .posts) i _ nobody (omega (arith, w .post-count)) (doing-heard (o .k) (q .place) d (q .memory) (positive o)))
+      (set-map (λ (p : Post). numberIn (o .k) (p .memory)) (m .posts) i _ v refl)
+      (line-after o (d .sends) (frameBytes (q .place) v) (m .lines) i v (omega (arith, w .line-count)) c)
+      (keep-map (λ (p : Post). heardIn (o .k) (p .memory)) (m .posts) i _ nobody (omega (arith, w .post-count)) (doing-heard (o .k) (q .place) d (q .memory) (positive o)))
       ∙ sym (acts-parts (o .k) i (d .moves) (d .sends) (numbersOf o m) v (rw (length-map (m .posts) (λ (p : Post). numberIn (o .k) (p .memory))) (omega (arith, w .post-count))) (taken d))
 
   -- a number that is heard is the one on the line
@@ -122,10 +122,10 @@ module _ (o : Settings) (m : Machine) (w : Whole (o .posts) m) (i : ℕ) (l : i 
   unfolding numbersOf
   heard-numbers =
       same-numbers
-        (keep-map (λ (p : Post). numberIn (o .k) (p .memory)) (m .posts) i _ nobody (omega (arith, w .post-count))
-          (norm-is (o .k) (numberIn (o .k) (postAt m i .memory)) (norm-below (o .k) (postAt m i .memory .number) (positive o))))
-        refl
-        (set-map (λ (p : Post). heardIn (o .k) (p .memory)) (m .posts) i _ _ (sym (numbers-sent o (o .posts) m w (preceding (o .posts) i) (preceding-below (o .posts) i l))))
+      (keep-map (λ (p : Post). numberIn (o .k) (p .memory)) (m .posts) i _ nobody (omega (arith, w .post-count))
+      (norm-is (o .k) (numberIn (o .k) (postAt m i .memory)) (norm-below (o .k) (postAt m i .memory .number) (positive o))))
+      refl
+      (set-map (λ (p : Post). heardIn (o .k) (p .memory)) (m .posts) i _ _ (sym (numbers-sent o (o .posts) m w (preceding (o .posts) i) (preceding-below (o .posts) i l))))
 
   -- a hear by what the reader says of the frame: it is refused, or the number on the line is heard
   pub hear-by : (f : Option Fault) →
@@ -134,19 +134,20 @@ module _ (o : Settings) (m : Machine) (w : Whole (o .posts) m) (i : ℕ) (l : i 
   unfolding numbersOf
   hear-by (Some f) =
       inl (same-numbers
-        (keep-map (λ (p : Post). numberIn (o .k) (p .memory)) (m .posts) i (postAt m i) nobody (omega (arith, w .post-count)) refl)
-        refl
-        (keep-map (λ (p : Post). heardIn (o .k) (p .memory)) (m .posts) i (postAt m i) nobody (omega (arith, w .post-count)) refl))
+      (keep-map (λ (p : Post). numberIn (o .k) (p .memory)) (m .posts) i (postAt m i) nobody (omega (arith, w .post-count)) refl)
+      refl
+      (keep-map (λ (p : Post). heardIn (o .k) (p .memory)) (m .posts) i (postAt m i) nobody (omega (arith, w .post-count)) refl))
   hear-by None = inr heard-numbers
 
   pub hear-numbers : (numbersOf o (hearOf o i m) ≡ numbersOf o m) ⊎ (numbersOf o (hearOf o i m) ≡ hears (o .posts) i (numbersOf o m))
   hear-numbers = lost-or (lineAt m (preceding (o .posts) i) .lost)
-      where
-        heardMachine : Machine
-        heardMachine = record { posts = set (m .posts) i (hearStep o (lineAt m (preceding (o .posts) i) .frame) (postAt m i) .0); lines = m .lines }
-        lost-or : (b : Bool) → (numbersOf o (cond b m heardMachine) ≡ numbersOf o m) ⊎ (numbersOf o (cond b m heardMachine) ≡ hears (o .posts) i (numbersOf o m))
-        lost-or true = inl refl
-        lost-or false = hear-by (firstFault (frameChecks (o .posts) (o .k) (postAt m i .place) (lineAt m (preceding (o .posts) i) .frame)))
+    where
+      heardMachine : Machine
+      heardMachine = record { posts = set (m .posts) i (hearStep o (lineAt m (preceding (o .posts) i) .frame) (postAt m i) .0); lines = m .lines }
+
+      lost-or : (b : Bool) → (numbersOf o (cond b m heardMachine) ≡ numbersOf o m) ⊎ (numbersOf o (cond b m heardMachine) ≡ hears (o .posts) i (numbersOf o m))
+      lost-or true = inl refl
+      lost-or false = hear-by (firstFault (frameChecks (o .posts) (o .k) (postAt m i .place) (lineAt m (preceding (o .posts) i) .frame)))
 
   pub lose-numbers : numbersOf o (loseOf i m) ≡ numbersOf o m
   unfolding numbersOf
@@ -157,17 +158,18 @@ module _ (o : Settings) (m : Machine) (w : Whole (o .posts) m) (i : ℕ) (l : i 
   unfolding numbersOf
   button-numbers b =
       same-numbers
-        (keep-map (λ (p : Post). numberIn (o .k) (p .memory)) (m .posts) i _ nobody (omega (arith, w .post-count)) refl)
-        refl
-        (keep-map (λ (p : Post). heardIn (o .k) (p .memory)) (m .posts) i _ nobody (omega (arith, w .post-count)) refl)
+      (keep-map (λ (p : Post). numberIn (o .k) (p .memory)) (m .posts) i _ nobody (omega (arith, w .post-count)) refl)
+      refl
+      (keep-map (λ (p : Post). heardIn (o .k) (p .memory)) (m .posts) i _ nobody (omega (arith, w .post-count)) refl)
 
 -- a machine's numbers are fit
 pub machine-fit : (o : Settings) (m : Machine) → Whole (o .posts) m → Fit (o .posts) (o .k) (numbersOf o m)
 unfolding numbersOf
 machine-fit o m w = record {
-    owns = length-map (m .posts) _ ∙ w .post-count;
-    sents = length-map (m .lines) _ ∙ w .line-count;
-    hearings = length-map (m .posts) _ ∙ w .post-count;
-    own-below = λ p l. rw (numbers-own o (o .posts) m w p l) (norm-below (o .k) _ (positive o));
-    sent-below = λ p l. rw (numbers-sent o (o .posts) m w p l) (norm-below (o .k) _ (positive o));
-    heard-below = λ p l. rw (numbers-heard o (o .posts) m w p l) (norm-below (o .k) _ (positive o)) }
+  owns = length-map (m .posts) _ ∙ w .post-count;
+  sents = length-map (m .lines) _ ∙ w .line-count;
+  hearings = length-map (m .posts) _ ∙ w .post-count;
+  own-below = λ p l. rw (numbers-own o (o .posts) m w p l) (norm-below (o .k) _ (positive o));
+  sent-below = λ p l. rw (numbers-sent o (o .posts) m w p l) (norm-below (o .k) _ (positive o));
+  heard-below = λ p l. rw (numbers-heard o (o .posts) m w p l) (norm-below (o .k) _ (positive o));
+}

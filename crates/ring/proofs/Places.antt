@@ -30,12 +30,13 @@ pub state-set : (n : ℕ) (x y : Numbers) (a v : ℕ) → a < 3 * n → memberOf
 state-set n x y a v l e h =
     ext-getD 0 (stateOf n y) (set (stateOf n x) a v) (state-length n y ∙ (sym (state-length n x) ∙ sym (length-set (stateOf n x) a v)))
     (λ j m.
-      let b : j < 3 * n = omega (arith, state-length n y) in
-      elim (cases-eq j a) [
-        inl q ↦
+    let b : j < 3 * n = omega (arith, state-length n y) in
+    elim (cases-eq j a) [
+      | inl q ↦
           let c : getD (set (stateOf n x) a v) j 0 ≡ v = ap (λ i. getD (set (stateOf n x) a v) i 0) q ∙ getD-set-same (stateOf n x) a v 0 (omega (arith, state-length n x)) in
           state-at n y j b ∙ (ap (memberOf n y) q ∙ (e ∙ sym c))
-      | inr d ↦ state-at n y j b ∙ (h j b d ∙ (sym (state-at n x j b) ∙ sym (getD-set-other (stateOf n x) a j v 0 d))) ])
+      | inr d ↦ state-at n y j b ∙ (h j b d ∙ (sym (state-at n x j b) ∙ sym (getD-set-other (stateOf n x) a j v 0 d)))
+    ])
 
 -- the three members of a post
 pub post-at : (n : ℕ) (x : Numbers) (p : ℕ) → memberOf n x (3 * p) ≡ getD (x .own) p 0
@@ -103,8 +104,9 @@ up-preceding n (suc p) l = grind (arith, tells)
 
 pub preceding-up : (n q : ℕ) → q < n → preceding n (up n q) ≡ q
 preceding-up n q l = elim (cases-lt (q + 1) n) [
-      inl m ↦ let e : up n q ≡ suc q = grind (arith, tells) in rw e
-    | inr m ↦ let e : up n q ≡ 0 = grind (arith, tells) in rw e (omega (arith, suc-pred-eq-of-pos {n = n} (omega arith))) ]
+  | inl m ↦ let e : up n q ≡ suc q = grind (arith, tells) in rw e
+  | inr m ↦ let e : up n q ≡ 0 = grind (arith, tells) in rw e (omega (arith, suc-pred-eq-of-pos {n = n} (omega arith)))
+]
 
 pub heard-set : (n : ℕ) (x : Numbers) (p v : ℕ) → p < n → length (x .heard) ≡ n →
     stateOf n (record { own = x .own; sent = x .sent; heard = set (x .heard) p v }) ≡ set (stateOf n x) (endBefore n p) v
@@ -115,5 +117,5 @@ heard-set n x p v l e =
     state-set n x y (endBefore n p) v (omega arith)
     (end-at n y (preceding n p) ∙ (ap (λ q. getD (set (x .heard) p v) q 0) (up-preceding n p l) ∙ getD-set-same (x .heard) p v 0 (omega arith)))
     (λ j m d. part-heard (j % 3) _ _ _ _ (λ z.
-      getD-set-other (x .heard) p (up n (j / 3)) v 0
-      (λ q. let f : j / 3 ≡ preceding n p = sym (preceding-up n (j / 3) (omega arith)) ∙ ap (preceding n) q in d (omega arith))))
+    getD-set-other (x .heard) p (up n (j / 3)) v 0
+    (λ q. let f : j / 3 ≡ preceding n p = sym (preceding-up n (j / 3) (omega arith)) ∙ ap (preceding n) q in d (omega arith))))

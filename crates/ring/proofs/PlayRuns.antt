@@ -40,15 +40,16 @@ pub midplay-none : (o : Settings) (script : List ℕ) (m : Machine) (s : State) 
     Midplay o script script m (m .posts) (m .lines) s 0 r
 unfolding played sayings anew
 midplay-none o script m s r w e y t = record {
-    done = [];
-    split = refl;
-    so-far = refl;
-    holds = record { posts = refl; lines = refl; numbers = e };
-    tally = y;
-    tells = t;
-    sound = subst (Sound o m) (sym y) (sound-anew o m w);
-    few-lines = omega arith;
-    few-moves = omega (arith, ap (λ (z : Tally). z .moves) y) }
+  done = [];
+  split = refl;
+  so-far = refl;
+  holds = record { posts = refl; lines = refl; numbers = e };
+  tally = y;
+  tells = t;
+  sound = subst (Sound o m) (sym y) (sound-anew o m w);
+  few-lines = omega arith;
+  few-moves = omega (arith, ap (λ (z : Tally). z .moves) y);
+}
 
 same-stage : (x : Stage) (ps : List Post) (ls : List Line) (y : Tally) → ps ≡ x .machine .posts → ls ≡ x .machine .lines → y ≡ x .tally → record { machine = record { posts = ps; lines = ls }; tally = y } ≡ x
 same-stage x ps ls y a b c =
@@ -83,7 +84,8 @@ module _ (o : Settings) (script rest : List ℕ) (m : Machine) (ps : List Post) 
         tells = subst (Tells q) (sym (sayings-more o 0 (h .done) text x)) (tells-more r q (sayings o 0 (h .done) x) _ (h .tells) (subst (Adds r q) p a));
         sound = g;
         few-lines = omega (arith, h .few-lines);
-        few-moves = omega (arith, h .few-moves) }
+        few-moves = omega (arith, h .few-moves);
+      }
 
   -- all lines were played
   pub midplay-all : length rest ≡ 0 → PlayedWhole o script m ps ls s r
@@ -94,12 +96,14 @@ module _ (o : Settings) (script rest : List ℕ) (m : Machine) (ps : List Post) 
         holds = subst (λ z. Holds o (played o z (begins o m) .machine) ps ls s) d (h .holds);
         tally = h .tally ∙ ap (λ z. played o z (begins o m) .tally) d;
         tells = subst (λ z. Tells r (sayings o 0 z (begins o m))) d (h .tells);
-        held = subst (λ t. HeldTo (ringOfSettings o) t (r .tally)) (sym (h .holds .numbers ∙ ap (λ (z : Stage). stateIn o (z .machine)) (sym here))) (h .sound .held) }
+        held = subst (λ t. HeldTo (ringOfSettings o) t (r .tally)) (sym (h .holds .numbers ∙ ap (λ (z : Stage). stateIn o (z .machine)) (sym here))) (h .sound .held);
+      }
 
   -- memory failed
   pub midplay-some : (ps′ : List Post) (ls′ : List Line) (s′ : State) → Holds o (record { posts = ps; lines = ls }) ps′ ls′ s′ → PlayedSome o script m ps′ ls′ s′
   midplay-some ps′ ls′ s′ f = record {
-      done = h .done;
-      left = linesOf rest;
-      lines = h .split;
-      holds = subst (λ z. Holds o (z .machine) ps′ ls′ s′) here f }
+    done = h .done;
+    left = linesOf rest;
+    lines = h .split;
+    holds = subst (λ z. Holds o (z .machine) ps′ ls′ s′) here f;
+  }

@@ -92,7 +92,10 @@ part-below k (suc (suc c)) x y z a b d = d
 
 pub fit-state : (n k : ℕ) (x : Numbers) → Fit n k x → IsState (ringOfPosts n k) (stateOf n x)
 unfolding memberOf
-fit-state n k x f = (state-length n x, all-below k (stateOf n x) (λ j l.
+fit-state n k x f = (
+  state-length n x,
+  all-below k (stateOf n x) (λ j l.
       let m : j < 3 * n = omega (arith, state-length n x) in
       let q : j / 3 < n = omega arith in
-      rw (state-at n x j m) (part-below k (j % 3) _ _ _ (f .own-below (j / 3) q) (f .sent-below (j / 3) q) (f .heard-below (up n (j / 3)) (up-below n (j / 3) (omega arith))))))
+      rw (state-at n x j m) (part-below k (j % 3) _ _ _ (f .own-below (j / 3) q) (f .sent-below (j / 3) q) (f .heard-below (up n (j / 3)) (up-below n (j / 3) (omega arith))))),
+)

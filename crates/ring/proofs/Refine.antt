@@ -36,8 +36,9 @@ pub placed-set : (n : ℕ) (ps : List Post) (i : ℕ) (q : Post) → length ps �
     (j : ℕ) (d : Post) → j < n → getD (set ps i q) j d .place ≡ j
 placed-set n ps i q e h l s j d m =
     elim (cases-eq j i) [
-      inl z ↦ ap (λ a. getD (set ps i q) a d .place) z ∙ (ap (λ (x : Post). x .place) (getD-set-same ps i q d (omega arith)) ∙ (s ∙ (h i nobody l ∙ sym z)))
-    | inr z ↦ ap (λ (x : Post). x .place) (getD-set-other ps i j q d z) ∙ h j d m ]
+      | inl z ↦ ap (λ a. getD (set ps i q) a d .place) z ∙ (ap (λ (x : Post). x .place) (getD-set-same ps i q d (omega arith)) ∙ (s ∙ (h i nobody l ∙ sym z)))
+      | inr z ↦ ap (λ (x : Post). x .place) (getD-set-other ps i j q d z) ∙ h j d m
+    ]
 
 hear-place : (f : Option Fault) (o : Settings) (bytes : List ℕ) (p : Post) → hearBy f o bytes p .0 .place ≡ p .place
 hear-place None o bytes p = refl
@@ -46,31 +47,37 @@ hear-place (Some f) o bytes p = refl
 pub step-whole : (o : Settings) (e : Event) (m : Machine) → Whole (o .posts) m → postOf e < o .posts → Whole (o .posts) (step o e m)
 unfolding step
 step-whole o (tick i) m w l = record {
-    post-count = length-set (m .posts) i _ ∙ w .post-count;
-    line-count = length-set (m .lines) i _ ∙ w .line-count;
-    placed = placed-set (o .posts) (m .posts) i _ (w .post-count) (w .placed) l refl }
+  post-count = length-set (m .posts) i _ ∙ w .post-count;
+  line-count = length-set (m .lines) i _ ∙ w .line-count;
+  placed = placed-set (o .posts) (m .posts) i _ (w .post-count) (w .placed) l refl;
+}
 step-whole o (hear i) m w l = lost-or (lineAt m (preceding (o .posts) i) .lost)
-    where
-      bytes : List ℕ
-      bytes = lineAt m (preceding (o .posts) i) .frame
-      lost-or : (b : Bool) → Whole (o .posts) (cond b m (record { posts = set (m .posts) i (hearStep o bytes (postAt m i) .0); lines = m .lines }))
-      lost-or true = w
-      lost-or false = record {
-          post-count = length-set (m .posts) i _ ∙ w .post-count;
-          line-count = w .line-count;
-          placed = placed-set (o .posts) (m .posts) i _ (w .post-count) (w .placed) l (hear-place (firstFault (frameChecks (o .posts) (o .k) (postAt m i .place) bytes)) o bytes (postAt m i)) }
+  where
+    bytes : List ℕ
+    bytes = lineAt m (preceding (o .posts) i) .frame
+
+    lost-or : (b : Bool) → Whole (o .posts) (cond b m (record { posts = set (m .posts) i (hearStep o bytes (postAt m i) .0); lines = m .lines }))
+    lost-or true = w
+    lost-or false = record {
+      post-count = length-set (m .posts) i _ ∙ w .post-count;
+      line-count = w .line-count;
+      placed = placed-set (o .posts) (m .posts) i _ (w .post-count) (w .placed) l (hear-place (firstFault (frameChecks (o .posts) (o .k) (postAt m i .place) bytes)) o bytes (postAt m i));
+    }
 step-whole o (lose i) m w l = record {
-    post-count = w .post-count;
-    line-count = length-set (m .lines) i _ ∙ w .line-count;
-    placed = w .placed }
+  post-count = w .post-count;
+  line-count = length-set (m .lines) i _ ∙ w .line-count;
+  placed = w .placed;
+}
 step-whole o (press i) m w l = record {
-    post-count = length-set (m .posts) i _ ∙ w .post-count;
-    line-count = w .line-count;
-    placed = placed-set (o .posts) (m .posts) i _ (w .post-count) (w .placed) l refl }
+  post-count = length-set (m .posts) i _ ∙ w .post-count;
+  line-count = w .line-count;
+  placed = placed-set (o .posts) (m .posts) i _ (w .post-count) (w .placed) l refl;
+}
 step-whole o (release i) m w l = record {
-    post-count = length-set (m .posts) i _ ∙ w .post-count;
-    line-count = w .line-count;
-    placed = placed-set (o .posts) (m .posts) i _ (w .post-count) (w .placed) l refl }
+  post-count = length-set (m .posts) i _ ∙ w .post-count;
+  line-count = w .line-count;
+  placed = placed-set (o .posts) (m .posts) i _ (w .post-count) (w .placed) l refl;
+}
 
 pub run-whole : (o : Settings) (es : List Event) (m : Machine) → Whole (o .posts) m → Among (o .posts) es → Whole (o .posts) (run o es m)
 unfolding run Among
@@ -93,8 +100,9 @@ unfolding step
 event-steps o (tick i) m w l = tick-steps o m w i l (deedsIn o (postAt m i)) (λ e. and-parts _ _ e .0)
 event-steps o (hear i) m w l =
     elim (hear-numbers o m w i l) [
-      inl e ↦ subst (Steps (o .posts) (o .k) (numbersOf o m)) (sym e) (none-steps (o .posts) (o .k) (numbersOf o m))
-    | inr e ↦ subst (Steps (o .posts) (o .k) (numbersOf o m)) (sym e) (hears-steps (o .posts) (o .k) (enough o) (numbersOf o m) (machine-fit o m w) i l) ]
+      | inl e ↦ subst (Steps (o .posts) (o .k) (numbersOf o m)) (sym e) (none-steps (o .posts) (o .k) (numbersOf o m))
+      | inr e ↦ subst (Steps (o .posts) (o .k) (numbersOf o m)) (sym e) (hears-steps (o .posts) (o .k) (enough o) (numbersOf o m) (machine-fit o m w) i l)
+    ]
 event-steps o (lose i) m w l = subst (Steps (o .posts) (o .k) (numbersOf o m)) (sym (lose-numbers o m w i l)) (none-steps (o .posts) (o .k) (numbersOf o m))
 event-steps o (press i) m w l = subst (Steps (o .posts) (o .k) (numbersOf o m)) (sym (button-numbers o m w i l true)) (none-steps (o .posts) (o .k) (numbersOf o m))
 event-steps o (release i) m w l = subst (Steps (o .posts) (o .k) (numbersOf o m)) (sym (button-numbers o m w i l false)) (none-steps (o .posts) (o .k) (numbersOf o m))

@@ -18,6 +18,7 @@ joined-append f (x ∷ xs) ys = ap (λ z. f x ++ z) (joined-append f xs ys) ∙ 
 
 pub tells-more : (r q : Report) (xs ys : List Saying) → Tells r xs → Adds r q ys → Tells q (xs ++ ys)
 tells-more r q xs ys t a = record {
-    said = a .said ∙ (ap (λ z. z ++ map saidOf ys) (t .said) ∙ sym (map-append saidOf xs ys));
-    numbers = a .numbers ∙ (ap (λ z. z ++ joined numbersSaid ys) (t .numbers) ∙ sym (joined-append numbersSaid xs ys));
-    speakers = a .speakers ∙ (ap (λ z. z ++ joined speakersSaid ys) (t .speakers) ∙ sym (joined-append speakersSaid xs ys)) }
+  said = a .said ∙ (ap (λ z. z ++ map saidOf ys) (t .said) ∙ sym (map-append saidOf xs ys));
+  numbers = a .numbers ∙ (ap (λ z. z ++ joined numbersSaid ys) (t .numbers) ∙ sym (joined-append numbersSaid xs ys));
+  speakers = a .speakers ∙ (ap (λ z. z ++ joined speakersSaid ys) (t .speakers) ∙ sym (joined-append speakersSaid xs ys));
+}

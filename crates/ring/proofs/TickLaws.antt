@@ -47,7 +47,8 @@ kept-numbers o m s y h =
       big = omega (arith, e, o .some);
       wide = omega (arith, e, o .enough);
       below = subst (λ t. T (allBelow (o .k) t)) (sym (h .same)) (machine-state o m (h .whole) .1);
-      counted = h .counted ∙ (ap (howMany (ringOfSettings o) s) (sym e) ∙ ap (λ r. howMany r s (length s)) (sym (ring-same o s e))) }
+      counted = h .counted ∙ (ap (howMany (ringOfSettings o) s) (sym e) ∙ ap (λ r. howMany r s (length s)) (sym (ring-same o s e)));
+    }
 
 -- numbers after a note can be noted again
 pub noted-kept : (k : ℕ) (s : State) (j v : ℕ) (y : Tally) → Countable k s (y .holders) → j < length s → v < k → Countable k (set s j v) (noted (ringOf k s) s (set s j v) y .holders)
@@ -58,11 +59,13 @@ noted-kept k s j v y h l b =
       wide = rw e (h .wide);
       below = below-set k s j v (h .below) b;
       counted = elim (cases-eq (at s j) v) [
-        inl q ↦
-          let t : set s j v ≡ s = ap (set s j) (sym q) ∙ set-getD s j 0 in
-          ap (λ z. z .holders) (noted-same (ringOf k s) s j v y l q) ∙ (h .counted ∙ ap (λ z. howMany (ringOf k z) z (length z)) (sym t))
-      | inr d ↦
-          ap (λ z. z .holders) (noted-other (ringOf k s) s j v y l d) ∙ ap (λ n. howMany (record { members = n; k = k }) (set s j v) n) (sym e) ] }
+        | inl q ↦
+            let t : set s j v ≡ s = ap (set s j) (sym q) ∙ set-getD s j 0 in
+            ap (λ z. z .holders) (noted-same (ringOf k s) s j v y l q) ∙ (h .counted ∙ ap (λ z. howMany (ringOf k z) z (length z)) (sym t))
+        | inr d ↦
+            ap (λ z. z .holders) (noted-other (ringOf k s) s j v y l d) ∙ ap (λ n. howMany (record { members = n; k = k }) (set s j v) n) (sym e)
+      ];
+    }
 
 module _ (o : Settings) (m : Machine) (w : Whole (o .posts) m) (i : ℕ) (l : i < o .posts) where
   -- the number of post i after its tick

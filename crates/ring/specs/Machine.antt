@@ -62,7 +62,7 @@ abbrev pub tickDoingOf : Settings → Deeds → ℕ → Machine → Machine
 tickDoingOf o d i m =
     record {
       posts = set (m .posts) i (postDoing o d (postAt m i));
-      lines = set (m .lines) i (sentOn (doing d (frameOf o (postDoing o d (postAt m i))) .sends) (lineAt m i))
+      lines = set (m .lines) i (sentOn (doing d (frameOf o (postDoing o d (postAt m i))) .sends) (lineAt m i));
     }
 
 -- a tick: post i does what its rule says
@@ -114,7 +114,7 @@ numbersOf o m =
     record {
       own = map (λ p. numberIn (o .k) (p .memory)) (m .posts);
       sent = map (λ l. norm (o .k) (numberCarried (l .frame))) (m .lines);
-      heard = map (λ p. heardIn (o .k) (p .memory)) (m .posts)
+      heard = map (λ p. heardIn (o .k) (p .memory)) (m .posts);
     }
 
 -- the numbers of all members

@@ -19,7 +19,14 @@ use posts::Post;
 use posts::in_range;
 
 // A tick of post `i`.
-pub(crate) fn play_tick(settings: &Settings, posts: &mut [Post], lines: &mut [Line], numbers: &mut [u16], tally: Tally, i: usize) -> Tally
+pub(crate) fn play_tick(
+    settings: &Settings,
+    posts: &mut [Post],
+    lines: &mut [Line],
+    numbers: &mut [u16],
+    tally: Tally,
+    i: usize,
+) -> Tally
     requires { ⌜ Kept (now settings) record { posts = now posts; lines = now lines } (now numbers) tally ⌝ ∗ ⌜ i < now settings .posts ⌝ ∗ ⌜ tally .moves + 2 < 2 ^ 64 ⌝ }
     ensures posts { λ _. ⌜ now (posts .exit) ≡ tickOf (now (settings .entry)) i record { posts = now (posts .entry); lines = now (lines .entry) } .posts ⌝ }
     ensures lines { λ _. ⌜ now (lines .exit) ≡ tickOf (now (settings .entry)) i record { posts = now (posts .entry); lines = now (lines .entry) } .lines ⌝ }
@@ -52,7 +59,14 @@ fn post_before(settings: &Settings, i: usize) -> usize
 }
 
 // Post `i` hears the line before it.
-pub(crate) fn play_hear(settings: &Settings, posts: &mut [Post], lines: &[Line], numbers: &mut [u16], tally: Tally, i: usize) -> Tally
+pub(crate) fn play_hear(
+    settings: &Settings,
+    posts: &mut [Post],
+    lines: &[Line],
+    numbers: &mut [u16],
+    tally: Tally,
+    i: usize,
+) -> Tally
     requires { ⌜ Kept (now settings) record { posts = now posts; lines = now lines } (now numbers) tally ⌝ ∗ ⌜ i < now settings .posts ⌝ ∗ ⌜ tally .moves + 1 < 2 ^ 64 ⌝ }
     ensures posts { λ _. ⌜ now (posts .exit) ≡ hearOf (now (settings .entry)) i record { posts = now (posts .entry); lines = now (lines .entry) } .posts ⌝ }
     ensures numbers { λ _. ⌜ now (numbers .exit) ≡ stateIn (now (settings .entry)) (hearOf (now (settings .entry)) i record { posts = now (posts .entry); lines = now (lines .entry) }) ⌝ }
@@ -88,7 +102,14 @@ pub(crate) fn press(posts: &mut [Post], i: usize, down: bool)
 }
 
 // The memory of post `i` becomes another: its number and the end of the line to it may change.
-pub(crate) fn disturb_memory(settings: &Settings, posts: &mut [Post], numbers: &mut [u16], tally: Tally, i: usize, memory: Memory) -> Tally
+pub(crate) fn disturb_memory(
+    settings: &Settings,
+    posts: &mut [Post],
+    numbers: &mut [u16],
+    tally: Tally,
+    i: usize,
+    memory: Memory,
+) -> Tally
     requires { ⌜ Countable (now settings .k) (now numbers) (tally .holders) ⌝ ∗ ⌜ length (now numbers) ≡ 3 * now settings .posts ⌝ ∗ ⌜ length (now posts) ≡ now settings .posts ⌝ ∗ ⌜ i < now settings .posts ⌝ }
     ensures posts { λ _. ⌜ now (posts .exit) ≡ set (now (posts .entry)) i (withMemory memory (getD (now (posts .entry)) i nobody)) ⌝ }
     ensures numbers { λ _. ⌜ now (numbers .exit) ≡ memoryNumbers (now (settings .entry) .posts) (now (settings .entry) .k) i memory (now (numbers .entry)) ⌝ }
@@ -110,7 +131,14 @@ pub(crate) fn number_on(frame: [u8; 6], k: u16) -> u16
 }
 
 // The frame on the line from post `i` becomes another, which isn't lost: its number may change.
-pub(crate) fn disturb_frame(settings: &Settings, lines: &mut [Line], numbers: &mut [u16], tally: Tally, i: usize, frame: [u8; 6]) -> Tally
+pub(crate) fn disturb_frame(
+    settings: &Settings,
+    lines: &mut [Line],
+    numbers: &mut [u16],
+    tally: Tally,
+    i: usize,
+    frame: [u8; 6],
+) -> Tally
     requires { ⌜ Countable (now settings .k) (now numbers) (tally .holders) ⌝ ∗ ⌜ length (now numbers) ≡ 3 * now settings .posts ⌝ ∗ ⌜ length (now lines) ≡ now settings .posts ⌝ ∗ ⌜ i < now settings .posts ⌝ }
     ensures lines { λ _. ⌜ now (lines .exit) ≡ set (now (lines .entry)) i record { frame = frame; lost = false } ⌝ }
     ensures numbers { λ _. ⌜ now (numbers .exit) ≡ frameNumbers (now (settings .entry) .k) i frame (now (numbers .entry)) ⌝ }

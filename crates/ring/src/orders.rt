@@ -19,7 +19,15 @@ use posts::Memory;
 use posts::Post;
 
 // Obeys an order to post `i`.
-pub(crate) fn obey(settings: &Settings, posts: &mut [Post], lines: &mut [Line], numbers: &mut [u16], tally: Tally, i: usize, order: Order) -> Tally
+pub(crate) fn obey(
+    settings: &Settings,
+    posts: &mut [Post],
+    lines: &mut [Line],
+    numbers: &mut [u16],
+    tally: Tally,
+    i: usize,
+    order: Order,
+) -> Tally
     requires { ⌜ Sound (now settings) record { posts = now posts; lines = now lines } tally ⌝ ∗ ⌜ now numbers ≡ stateIn (now settings) record { posts = now posts; lines = now lines } ⌝ ∗ ⌜ i < now settings .posts ⌝ ∗ ⌜ tally .moves + 2 < 2 ^ 64 ⌝ }
     ensures holds { λ _. ⌜ Holds (now (settings .entry)) (obeyed (now (settings .entry)) i order record { machine = record { posts = now (posts .entry); lines = now (lines .entry) }; tally = tally } .machine) (now (posts .exit)) (now (lines .exit)) (now (numbers .exit)) ⌝ }
     ensures tally { λ r. ⌜ r ≡ obeyed (now (settings .entry)) i order record { machine = record { posts = now (posts .entry); lines = now (lines .entry) }; tally = tally } .tally ⌝ }

@@ -25,7 +25,16 @@ use std::alloc::Global;
 
 impl Report {
     // Plays line `line` of a script. `bytes` is for the bytes on it, whatever it held before. Where memory fails the ring is as before the line.
-    fn play_line(&mut self, settings: &Settings, posts: &mut [Post], lines: &mut [Line], numbers: &mut [u16], bytes: &mut Vec<u8>, text: &[u8], line: u64) -> Result<(), AllocError>
+    fn play_line(
+        &mut self,
+        settings: &Settings,
+        posts: &mut [Post],
+        lines: &mut [Line],
+        numbers: &mut [u16],
+        bytes: &mut Vec<u8>,
+        text: &[u8],
+        line: u64,
+    ) -> Result<(), AllocError>
         requires { ⌜ Sound (now settings) record { posts = now posts; lines = now lines } (now self .tally) ⌝ ∗ ⌜ now numbers ≡ stateIn (now settings) record { posts = now posts; lines = now lines } ⌝ ∗ ⌜ now self .tally .moves + 2 < 2 ^ 64 ⌝ }
         ensures holds { λ r. ⌜ Cases r (λ _. Holds (now (settings .entry)) (lineStage (now (settings .entry)) (now (text .entry)) record { machine = record { posts = now (posts .entry); lines = now (lines .entry) }; tally = now (self .entry) .tally } .machine) (now (posts .exit)) (now (lines .exit)) (now (numbers .exit))) (λ _. Holds (now (settings .entry)) record { posts = now (posts .entry); lines = now (lines .entry) } (now (posts .exit)) (now (lines .exit)) (now (numbers .exit))) ⌝ }
         ensures tally { λ r. ⌜ made r (λ _. now (self .exit) .tally ≡ lineStage (now (settings .entry)) (now (text .entry)) record { machine = record { posts = now (posts .entry); lines = now (lines .entry) }; tally = now (self .entry) .tally } .tally) ⌝ }
@@ -55,7 +64,14 @@ impl Report {
 // Plays the whole script: each line that holds an order is obeyed, one with nothing on it is passed over, and any other is refused.
 // `numbers` takes the number of each member, whatever it held before, and they are kept in step.
 // Whatever stands in the posts and on the lines, nothing stops the ring; it heals within the bound and stays healed, and then one post speaks at a time.
-pub fn play(heap: Global, settings: &Settings, script: &[u8], numbers: &mut [u16], posts: &mut [Post], lines: &mut [Line]) -> Result<Report, PlayError>
+pub fn play(
+    heap: Global,
+    settings: &Settings,
+    script: &[u8],
+    numbers: &mut [u16],
+    posts: &mut [Post],
+    lines: &mut [Line],
+) -> Result<Report, PlayError>
     ensures outcome { λ r. ⌜ Outcome (now (settings .entry)) (now (script .entry)) (now (posts .entry)) (now (lines .entry)) (now (numbers .entry)) (now (posts .exit)) (now (lines .exit)) (now (numbers .exit)) r ⌝ }
     ensures refines { λ _. ⌜ Refines ⌝ }
     ensures progress { λ _. ⌜ Progress ⌝ }

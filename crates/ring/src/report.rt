@@ -7,16 +7,9 @@ use frames::FaultPartialEq;
 #[derive(Clone, Copy, PartialEq, Eq, Debug)]
 pub enum Said {
     // a show of this post, with the counts in its memory
-    Shown {
-        post: u8,
-        moves: u32,
-        since: u32,
-    },
+    Shown { post: u8, moves: u32, since: u32 },
     // a line that was refused
-    Refused {
-        line: u64,
-        fault: Fault,
-    },
+    Refused { line: u64, fault: Fault },
 }
 
 #[derive(Drop)]

@@ -20,7 +20,11 @@ use std::alloc::AllocError;
 use std::alloc::Global;
 
 // Adds for each post whether it would speak in a tick now.
-fn push_speakers(speakers: &mut Vec<bool>, settings: &Settings, posts: &[Post]) -> Result<(), AllocError>
+fn push_speakers(
+    speakers: &mut Vec<bool>,
+    settings: &Settings,
+    posts: &[Post],
+) -> Result<(), AllocError>
     ensures { λ r. ⌜ made r (λ _. vec-items (now (speakers .exit)) ≡ vec-items (now (speakers .entry)) ++ map (λ p. deedsIn (now (settings .entry)) p .speaks) (now (posts .entry))) ⌝ }
 {
     for post in posts {
@@ -55,7 +59,13 @@ impl Report {
     }
 
     // All numbers, who would speak, and the counts of one post.
-    pub(crate) fn show(&mut self, settings: &Settings, posts: &[Post], numbers: &[u16], post: u8) -> Result<(), AllocError>
+    pub(crate) fn show(
+        &mut self,
+        settings: &Settings,
+        posts: &[Post],
+        numbers: &[u16],
+        post: u8,
+    ) -> Result<(), AllocError>
         requires { ⌜ post < length (now posts) ⌝ }
         ensures says { λ r. ⌜ made r (λ _. ((ls : List Line) → now (numbers .entry) ≡ stateIn (now (settings .entry)) record { posts = now (posts .entry); lines = ls } → Adds (now (self .entry)) (now (self .exit)) (show (now (settings .entry)) post record { posts = now (posts .entry); lines = ls } ∷ []))) ⌝ }
         ensures tally { λ _. ⌜ now (self .exit) .tally ≡ now (self .entry) .tally ⌝ }

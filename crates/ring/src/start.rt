@@ -60,13 +60,22 @@ fn write_numbers(settings: &Settings, posts: &[Post], lines: &[Line], numbers: &
 }
 
 // The numbers of all members, and the tally from which counting begins; refused where the slices don't fit the settings.
-pub(crate) fn start(settings: &Settings, posts: &[Post], lines: &[Line], numbers: &mut [u16]) -> Result<Tally, PlayError>
+pub(crate) fn start(
+    settings: &Settings,
+    posts: &[Post],
+    lines: &[Line],
+    numbers: &mut [u16],
+) -> Result<Tally, PlayError>
     ensures fits { λ r. ⌜ Cases r (λ _. Fitting (now (settings .entry)) (now (posts .entry)) (now (lines .entry)) (now (numbers .entry))) (λ e. (e ≡ Unfit) × (Fitting (now (settings .entry)) (now (posts .entry)) (now (lines .entry)) (now (numbers .entry)) → ⊥)) ⌝ }
     ensures numbers { λ r. ⌜ Cases r (λ _. now (numbers .exit) ≡ stateIn (now (settings .entry)) record { posts = now (posts .entry); lines = now (lines .entry) }) (λ _. now (numbers .exit) ≡ now (numbers .entry)) ⌝ }
     ensures tally { λ r. ⌜ made r (λ y. y ≡ anew (ringOfSettings (now (settings .entry))) (stateIn (now (settings .entry)) record { posts = now (posts .entry); lines = now (lines .entry) })) ⌝ }
 {
     let count = usize::from(settings.posts);
-    if posts.len() != count || lines.len() != count || numbers.len() != 3 * count || !all_seated(posts) {
+    if posts.len() != count
+        || lines.len() != count
+        || numbers.len() != 3 * count
+        || !all_seated(posts)
+    {
         return Err(PlayError::Unfit);
     }
     write_numbers(settings, posts, lines, numbers);

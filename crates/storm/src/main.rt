@@ -1,11 +1,6 @@
 // storm: plays all posts and lines of a ring by a script of orders, and prints what each show saw, each refused line, and when the ring was healed.
 mod printing;
 
-use std::alloc::AllocError;
-use std::alloc::Global;
-use std::io::BufReader;
-use std::io::Read;
-
 use frames::Fault;
 use frames::Settings;
 use frames::Stop;
@@ -22,6 +17,10 @@ use printing::Printer;
 use ring::Line;
 use ring::PlayError;
 use ring::play;
+use std::alloc::AllocError;
+use std::alloc::Global;
+use std::io::BufReader;
+use std::io::Read;
 
 // At the beginning all memories are zero and all buttons up.
 fn first_posts(heap: Global, settings: &Settings) -> Result<Vec<Post>, AllocError> {
@@ -57,8 +56,18 @@ fn run(rt: &LibcRuntime) -> Result<(), Stop> {
     let mut posts = first_posts(heap, &settings)?;
     let mut lines = first_lines(heap, &settings)?;
     let mut numbers = vec![in heap; 0u16; settings.members()]?;
-    match play(heap, &settings, script.as_slice(), &mut numbers, &mut posts, &mut lines) {
-        Ok(report) => Printer { settings, lines_before: before }.print(rt, &report),
+    match play(
+        heap,
+        &settings,
+        script.as_slice(),
+        &mut numbers,
+        &mut posts,
+        &mut lines,
+    ) {
+        Ok(report) => Printer {
+            settings,
+            lines_before: before,
+        }.print(rt, &report),
         Err(PlayError::Memory) => Err(Stop::Memory),
         Err(PlayError::Unfit) => Err(Stop::Refused(Fault::OutOfRange)),
     }

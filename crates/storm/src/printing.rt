@@ -1,7 +1,4 @@
 // A report in text.
-use std::io::BufWriter;
-use std::io::Write;
-
 use frames::FaultDisplay;
 use frames::Member;
 use frames::MemberDisplay;
@@ -12,6 +9,8 @@ use members::may_move;
 use members::most_moves;
 use ring::Report;
 use ring::Said;
+use std::io::BufWriter;
+use std::io::Write;
 
 // Prints the numbers of all members: for each post its own, its frame's and its end's.
 fn print_numbers<W: Write>(out: &mut W, numbers: &[u16]) -> Result<(), Stop> {
@@ -67,7 +66,12 @@ pub struct Printer {
 }
 
 impl Printer {
-    fn print_show<W: Write>(self, out: &mut W, numbers: &[u16], speakers: &[bool]) -> Result<(), Stop> {
+    fn print_show<W: Write>(
+        self,
+        out: &mut W,
+        numbers: &[u16],
+        speakers: &[bool],
+    ) -> Result<(), Stop> {
         write!(out, "show: ")?;
         print_numbers(out, numbers)?;
         write!(out, "; word: ")?;
@@ -89,11 +93,19 @@ impl Printer {
     }
 
     // Prints what was said of one line, and gives back the numbers and speakers of the shows after it.
-    fn print_said<'a, W: Write>(self, out: &mut W, said: Said, numbers: &'a [u16], speakers: &'a [bool]) -> Result<(&'a [u16], &'a [bool]), Stop> {
+    fn print_said<'a, W: Write>(
+        self,
+        out: &mut W,
+        said: Said,
+        numbers: &'a [u16],
+        speakers: &'a [bool],
+    ) -> Result<(&'a [u16], &'a [bool]), Stop> {
         match said {
             Said::Shown { post, moves, since } => {
                 let (shown, numbers) = numbers.split_at(self.settings.members().min(numbers.len()));
-                let (speaking, speakers) = speakers.split_at(usize::from(self.settings.posts).min(speakers.len()));
+                let (speaking, speakers) = speakers.split_at(usize::from(
+                    self.settings.posts,
+                ).min(speakers.len()));
                 self.print_show(out, shown, speaking)?;
                 writeln!(out, "; post {post}: {moves} goings on, {since} ticks since")?;
                 Ok((numbers, speakers))
@@ -111,7 +123,12 @@ impl Printer {
         let mut numbers = report.numbers.as_slice();
         let mut speakers = report.speakers.as_slice();
         for said in report.said.iter() {
-            let (later_numbers, later_speakers) = self.print_said(&mut out, *said, numbers, speakers)?;
+            let (later_numbers, later_speakers) = self.print_said(
+                &mut out,
+                *said,
+                numbers,
+                speakers,
+            )?;
             numbers = later_numbers;
             speakers = later_speakers;
         }

@@ -22,4 +22,5 @@ returns c =
     record {
       lines = refl;
       numbers = e ∙ ap (set (c .args .numbers .now) (3 * c .args .i + 1)) (c .number-on .ensures);
-      tally = c .disturb .ensures .value ∙ anew-ap (ring-same o (c .args .numbers .now) (c .pre .1 .0)) (sym e) }
+      tally = c .disturb .ensures .value ∙ anew-ap (ring-same o (c .args .numbers .now) (c .pre .1 .0)) (sym e);
+    }

@@ -22,12 +22,15 @@ disturb-requires c κs =
     let a = c .disturb-tally .ensures .after in
     let v = c .in-range .result in
     let b = subst (λ v. v < o .k) (sym (c .in-range .ensures)) (norm-below (o .k) (c .args .memory .number) (positive o)) in
-    let n = length-set s (3 * c .args .i) v in
-    (subst (λ t. Countable (o .k) t (c .disturb-tally .result .holders)) (sym a)
-      (subst (λ z. Countable (o .k) (set s (3 * c .args .i) v) (z .holders)) (sym (c .disturb-tally .ensures .value))
-        (anew-kept (o .k) s (3 * c .args .i) v (c .args .tally .holders) (c .pre .0) (omega (arith, c .pre .1 .0, c .pre .1 .1 .1)) b)),
-      (omega (arith, ap length a, n, c .pre .1 .0, c .post-before-before .ensures .below),
-        subst (λ v. v < o .k) (sym (c .in-range-2 .ensures)) (norm-below (o .k) (c .args .memory .heard) (positive o))))
+    let n = length-set s (3 * c .args .i) v in (
+      subst (λ t. Countable (o .k) t (c .disturb-tally .result .holders)) (sym a)
+          (subst (λ z. Countable (o .k) (set s (3 * c .args .i) v) (z .holders)) (sym (c .disturb-tally .ensures .value))
+          (anew-kept (o .k) s (3 * c .args .i) v (c .args .tally .holders) (c .pre .0) (omega (arith, c .pre .1 .0, c .pre .1 .1 .1)) b)),
+      (
+        omega (arith, ap length a, n, c .pre .1 .0, c .post-before-before .ensures .below),
+        subst (λ v. v < o .k) (sym (c .in-range-2 .ensures)) (norm-below (o .k) (c .args .memory .heard) (positive o)),
+      ),
+    )
 
 pub returns : need.returns
 returns c =
@@ -39,4 +42,5 @@ returns c =
     record {
       posts = refl;
       numbers = e ∙ cc (a, c .in-range .ensures, c .in-range-2 .ensures, c .post-before-before .ensures .value);
-      tally = c .disturb .ensures .value ∙ anew-ap (ring-same o (c .disturb-tally .last .numbers) n) (sym e) }
+      tally = c .disturb .ensures .value ∙ anew-ap (ring-same o (c .disturb-tally .last .numbers) n) (sym e);
+    }

@@ -28,10 +28,13 @@ note-tally-requires c κs =
     let o = c .args .settings .now in
     let m : Machine = record { posts = c .args .posts .now; lines = c .args .lines .now } in
     let h = c .pre .0 in
-    let e = ap (λ z. z .0 .memory .number) (c .tick .ensures .value) in
-    (kept-numbers o m (c .args .numbers .now) (c .args .tally) h,
-      (omega (arith, kept-length o m (c .args .numbers .now) (c .args .tally) h, c .pre .1 .0),
-        (subst (λ v. v < o .k) (sym e) (below-after o m (h .whole) (c .args .i) (c .pre .1 .0)), omega (arith, c .pre .1 .1))))
+    let e = ap (λ z. z .0 .memory .number) (c .tick .ensures .value) in (
+      kept-numbers o m (c .args .numbers .now) (c .args .tally) h,
+      (
+        omega (arith, kept-length o m (c .args .numbers .now) (c .args .tally) h, c .pre .1 .0),
+        (subst (λ v. v < o .k) (sym e) (below-after o m (h .whole) (c .args .i) (c .pre .1 .0)), omega (arith, c .pre .1 .1)),
+      ),
+    )
 
 pub note-requires : need.note-requires
 note-requires c κs =
@@ -46,10 +49,13 @@ note-requires c κs =
     let n = kept-length o m s (c .args .tally) h in
     let k = noted-kept (o .k) s (3 * i) v (c .args .tally) (kept-numbers o m s (c .args .tally) h) (omega (arith, n, c .pre .1 .0)) b in
     let a = c .note-tally .ensures .after in
-    let y = c .note-tally .ensures .value in
-    (subst (λ t. Countable (o .k) t (c .note-tally .result .holders)) (sym a) (subst (λ z. Countable (o .k) (set s (3 * i) v) (z .holders)) (sym y) k),
-      (omega (arith, ap length a, length-set s (3 * i) v, n, c .pre .1 .0),
-        (b, omega (arith, ap (λ z. z .moves) y, noted-moves (ringOf (o .k) s) s (set s (3 * i) v) (c .args .tally), c .pre .1 .1))))
+    let y = c .note-tally .ensures .value in (
+      subst (λ t. Countable (o .k) t (c .note-tally .result .holders)) (sym a) (subst (λ z. Countable (o .k) (set s (3 * i) v) (z .holders)) (sym y) k),
+      (
+        omega (arith, ap length a, length-set s (3 * i) v, n, c .pre .1 .0),
+        (b, omega (arith, ap (λ z. z .moves) y, noted-moves (ringOf (o .k) s) s (set s (3 * i) v) (c .args .tally), c .pre .1 .1)),
+      ),
+    )
 
 pub returns-in-Some : need.returns-in-Some
 returns-in-Some c =
@@ -68,9 +74,10 @@ returns-in-Some c =
       lines = sym (ap (λ z. set (c .args .lines .now) i (sentOn z (lineAt m i))) q);
       numbers = c .note .ensures .after ∙ (ap (λ t. set t (3 * i + 1) v) a ∙ state-sent o m (h .whole) i (c .pre .1 .0) s (h .same) v e (c .args .tally) b);
       tally =
-        c .note .ensures .value ∙
-        (noted-ap (ring-set (o .k) s (3 * i) v (c .note-tally .last .numbers) a) a (ap (λ t. set t (3 * i + 1) v) a) (c .note-tally .ensures .value) ∙
-        tally-sent o m (h .whole) i (c .pre .1 .0) s (h .same) v e (c .args .tally) b) }
+          c .note .ensures .value ∙
+          (noted-ap (ring-set (o .k) s (3 * i) v (c .note-tally .last .numbers) a) a (ap (λ t. set t (3 * i + 1) v) a) (c .note-tally .ensures .value) ∙
+          tally-sent o m (h .whole) i (c .pre .1 .0) s (h .same) v e (c .args .tally) b);
+    }
 
 pub returns-in-None : need.returns-in-None
 returns-in-None c =
@@ -87,4 +94,5 @@ returns-in-None c =
       posts = ap (λ z. set (c .args .posts .now) i (z .0)) (c .tick .ensures .value);
       lines = sym (ap (λ z. set (c .args .lines .now) i (sentOn z (lineAt m i))) q ∙ set-getD (c .args .lines .now) i unused);
       numbers = c .note-tally .ensures .after ∙ state-silent o m (h .whole) i (c .pre .1 .0) s (h .same) v e (c .args .tally) b;
-      tally = c .note-tally .ensures .value ∙ tally-silent o m (h .whole) i (c .pre .1 .0) s (h .same) v e (c .args .tally) b }
+      tally = c .note-tally .ensures .value ∙ tally-silent o m (h .whole) i (c .pre .1 .0) s (h .same) v e (c .args .tally) b;
+    }

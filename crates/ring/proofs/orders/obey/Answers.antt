@@ -58,7 +58,8 @@ returns-in-Tick c =
     let l = c .pre .1 .1 .0 in
     record {
       holds = subst (λ z. Holds o (obeyed o i z x .machine) (c .play-tick .last .posts) (c .play-tick .last .lines) (c .play-tick .last .numbers)) (sym (c .in-Tick .is)) (record { posts = c .play-tick .ensures .posts; lines = c .play-tick .ensures .lines; numbers = c .play-tick .ensures .numbers });
-      tally = subst (λ z. c .play-tick .result ≡ obeyed o i z x .tally) (sym (c .in-Tick .is)) (c .play-tick .ensures .tally) }
+      tally = subst (λ z. c .play-tick .result ≡ obeyed o i z x .tally) (sym (c .in-Tick .is)) (c .play-tick .ensures .tally);
+    }
 
 pub returns-in-Hear : need.returns-in-Hear
 unfolding obeyed step
@@ -74,7 +75,8 @@ returns-in-Hear c =
     let l = c .pre .1 .1 .0 in
     record {
       holds = subst (λ z. Holds o (obeyed o i z x .machine) (c .play-hear .last .posts) (c .args .lines .now) (c .play-hear .last .numbers)) (sym (c .in-Hear .is)) (record { posts = c .play-hear .ensures .posts; lines = hear-lines o m i; numbers = c .play-hear .ensures .numbers });
-      tally = subst (λ z. c .play-hear .result ≡ obeyed o i z x .tally) (sym (c .in-Hear .is)) (c .play-hear .ensures .tally) }
+      tally = subst (λ z. c .play-hear .result ≡ obeyed o i z x .tally) (sym (c .in-Hear .is)) (c .play-hear .ensures .tally);
+    }
 
 pub returns-in-Lose : need.returns-in-Lose
 unfolding obeyed step tallied
@@ -90,7 +92,8 @@ returns-in-Lose c =
     let l = c .pre .1 .1 .0 in
     record {
       holds = subst (λ z. Holds o (obeyed o i z x .machine) (c .args .posts .now) (c .lose .last .lines) (s)) (sym (c .in-Lose .is)) (record { posts = refl; lines = c .lose .ensures; numbers = c .pre .1 .0 ∙ sym (ap (stateOf (o .posts)) (lose-numbers o m w i l)) });
-      tally = subst (λ z. y ≡ obeyed o i z x .tally) (sym (c .in-Lose .is)) (refl) }
+      tally = subst (λ z. y ≡ obeyed o i z x .tally) (sym (c .in-Lose .is)) (refl);
+    }
 
 pub returns-in-Memory : need.returns-in-Memory
 unfolding obeyed step tallied
@@ -108,7 +111,8 @@ returns-in-Memory c =
     let n = c .disturb-memory .ensures .numbers ∙ (ap (memoryNumbers (o .posts) (o .k) i (c .from-bytes-memory .result)) (c .pre .1 .0) ∙ (sym (memory-state o m w i l (c .from-bytes-memory .result)) ∙ ap (λ z. stateIn o (memoryBecomes i z m)) e)) in
     record {
       holds = subst (λ z. Holds o (obeyed o i z x .machine) (c .disturb-memory .last .posts) (c .args .lines .now) (c .disturb-memory .last .numbers)) (sym (c .in-Memory .is)) (record { posts = c .disturb-memory .ensures .posts ∙ ap (λ z. set (m .posts) i (withMemory z (postAt m i))) e; lines = refl; numbers = n });
-      tally = subst (λ z. c .disturb-memory .result ≡ obeyed o i z x .tally) (sym (c .in-Memory .is)) (c .disturb-memory .ensures .tally ∙ anew-ap refl n) }
+      tally = subst (λ z. c .disturb-memory .result ≡ obeyed o i z x .tally) (sym (c .in-Memory .is)) (c .disturb-memory .ensures .tally ∙ anew-ap refl n);
+    }
 
 pub returns-in-Frame : need.returns-in-Frame
 unfolding obeyed step tallied
@@ -125,7 +129,8 @@ returns-in-Frame c =
     let n = c .disturb-frame .ensures .numbers ∙ (ap (frameNumbers (o .k) i (c .in-Frame .frame)) (c .pre .1 .0) ∙ sym (frame-state o m w i l (c .in-Frame .frame))) in
     record {
       holds = subst (λ z. Holds o (obeyed o i z x .machine) (c .args .posts .now) (c .disturb-frame .last .lines) (c .disturb-frame .last .numbers)) (sym (c .in-Frame .is)) (record { posts = refl; lines = c .disturb-frame .ensures .lines; numbers = n });
-      tally = subst (λ z. c .disturb-frame .result ≡ obeyed o i z x .tally) (sym (c .in-Frame .is)) (c .disturb-frame .ensures .tally ∙ anew-ap refl n) }
+      tally = subst (λ z. c .disturb-frame .result ≡ obeyed o i z x .tally) (sym (c .in-Frame .is)) (c .disturb-frame .ensures .tally ∙ anew-ap refl n);
+    }
 
 pub returns-in-ButtonDown : need.returns-in-ButtonDown
 unfolding obeyed step tallied
@@ -141,7 +146,8 @@ returns-in-ButtonDown c =
     let l = c .pre .1 .1 .0 in
     record {
       holds = subst (λ z. Holds o (obeyed o i z x .machine) (c .press .last .posts) (c .args .lines .now) (s)) (sym (c .in-ButtonDown .is)) (record { posts = c .press .ensures; lines = refl; numbers = c .pre .1 .0 ∙ sym (ap (stateOf (o .posts)) (button-numbers o m w i l true)) });
-      tally = subst (λ z. y ≡ obeyed o i z x .tally) (sym (c .in-ButtonDown .is)) (refl) }
+      tally = subst (λ z. y ≡ obeyed o i z x .tally) (sym (c .in-ButtonDown .is)) (refl);
+    }
 
 pub returns-in-ButtonUp : need.returns-in-ButtonUp
 unfolding obeyed step tallied
@@ -157,7 +163,8 @@ returns-in-ButtonUp c =
     let l = c .pre .1 .1 .0 in
     record {
       holds = subst (λ z. Holds o (obeyed o i z x .machine) (c .press-in-ButtonUp .last .posts) (c .args .lines .now) (s)) (sym (c .in-ButtonUp .is)) (record { posts = c .press-in-ButtonUp .ensures; lines = refl; numbers = c .pre .1 .0 ∙ sym (ap (stateOf (o .posts)) (button-numbers o m w i l false)) });
-      tally = subst (λ z. y ≡ obeyed o i z x .tally) (sym (c .in-ButtonUp .is)) (refl) }
+      tally = subst (λ z. y ≡ obeyed o i z x .tally) (sym (c .in-ButtonUp .is)) (refl);
+    }
 
 pub returns-in-Show : need.returns-in-Show
 unfolding obeyed
@@ -173,4 +180,5 @@ returns-in-Show c =
     let l = c .pre .1 .1 .0 in
     record {
       holds = subst (λ z. Holds o (obeyed o i z x .machine) (c .args .posts .now) (c .args .lines .now) (s)) (sym (c .in-Show .is)) (record { posts = refl; lines = refl; numbers = c .pre .1 .0 });
-      tally = subst (λ z. y ≡ obeyed o i z x .tally) (sym (c .in-Show .is)) (refl) }
+      tally = subst (λ z. y ≡ obeyed o i z x .tally) (sym (c .in-Show .is)) (refl);
+    }

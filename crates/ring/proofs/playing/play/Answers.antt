@@ -29,7 +29,8 @@ returns-in-Break-tally c =
       refines = refines;
       progress = progress;
       heals = heals;
-      speaks = speaks-alone }
+      speaks = speaks-alone;
+    }
 
 pub loop-rest-holds : need.loop-rest-holds
 loop-rest-holds c =
@@ -49,11 +50,12 @@ returns-in-Break-play-line c =
     let h = c .in-Break-play-line .ensures tt in
     record {
       outcome = subst (Outcome o (c .args .script .now) (m .posts) (m .lines) (c .args .numbers .now) (x .posts) (x .lines) (x .numbers)) (sym (p .1 ∙ ap Err (p .2)))
-        (c .in-Continue-tally .ensures tt .fits, midplay-some o (c .args .script .now) (c .loop-rest .rest .now) m (c .loop-rest .posts) (c .loop-rest .lines) (c .loop-rest .numbers) (c .loop-rest .line) (c .loop-rest .report) (c .loop-rest .inv) (x .posts) (x .lines) (x .numbers) (h .holds));
+          (c .in-Continue-tally .ensures tt .fits, midplay-some o (c .args .script .now) (c .loop-rest .rest .now) m (c .loop-rest .posts) (c .loop-rest .lines) (c .loop-rest .numbers) (c .loop-rest .line) (c .loop-rest .report) (c .loop-rest .inv) (x .posts) (x .lines) (x .numbers) (h .holds));
       refines = refines;
       progress = progress;
       heals = heals;
-      speaks = speaks-alone }
+      speaks = speaks-alone;
+    }
 
 pub loop-rest-again : need.loop-rest-again
 loop-rest-again c =
@@ -75,4 +77,5 @@ returns c =
       refines = refines;
       progress = progress;
       heals = heals;
-      speaks = speaks-alone }
+      speaks = speaks-alone;
+    }

@@ -30,4 +30,4 @@ pub returns : need.returns
 returns c =
     c .loop-post .inv ∙
     ap (λ z. vec-items (c .args .speakers .now) ++ map (λ (p : Post). deedsIn (c .args .settings .now) p .speaks) z)
-      (take-all (c .loop-post .post-index) (c .args .posts .now) (c .loop-post-test .left))
+    (take-all (c .loop-post .post-index) (c .args .posts .now) (c .loop-post-test .left))

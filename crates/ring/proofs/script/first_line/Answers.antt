@@ -24,7 +24,8 @@ returns-then-c-eq10 c =
     record {
       lines = first-line i s l (c .if-c-eq10 .taken) (c .loop-i .inv) ∙ (ap (λ t. t ∷ linesOf (drop (suc i) s)) (sym a) ∙ ap (λ t. take (i - 0) s ∷ linesOf t) (ap (λ n. drop n s) (sym (add-one i)) ∙ sym b));
       parts = omega (arith, m, n, l);
-      shorter = omega (arith, n, l) }
+      shorter = omega (arith, n, l);
+    }
 
 pub returns : need.returns
 unfolding linesOf
@@ -35,4 +36,5 @@ returns c =
     record {
       lines = last-line s (c .pre) (λ k l. c .loop-i .inv k (omega (arith, c .loop-i-test .left))) ∙ (ap (λ t. t ∷ []) (sym a) ∙ ap (λ t. c .split-at .result .0 .now ∷ linesOf t) (sym b));
       parts = omega (arith, ap length a, ap length b);
-      shorter = omega (arith, ap length b, c .pre) }
+      shorter = omega (arith, ap length b, c .pre);
+    }

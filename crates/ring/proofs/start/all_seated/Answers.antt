@@ -15,8 +15,9 @@ loop-i-again c k d l =
     let ps = c .args .posts .now in
     let i = c .loop-i .i in
     elim (cases-lt k i) [
-      inl b ↦ c .loop-i .inv k d b
-    | inr b ↦
-      let e : k ≡ i = omega arith in
-      ap (λ (p : Post). p .place) (ap (λ j. getD ps j d) e ∙ getD-default ps i d nobody (c .loop-i-test .taken)) ∙
-      (sym (c .place .ensures) ∙ (sym (c .from .ensures) ∙ (c .if-from-i .left ∙ sym e))) ]
+      | inl b ↦ c .loop-i .inv k d b
+      | inr b ↦
+          let e : k ≡ i = omega arith in
+          ap (λ (p : Post). p .place) (ap (λ j. getD ps j d) e ∙ getD-default ps i d nobody (c .loop-i-test .taken)) ∙
+          (sym (c .place .ensures) ∙ (sym (c .from .ensures) ∙ (c .if-from-i .left ∙ sym e)))
+    ]

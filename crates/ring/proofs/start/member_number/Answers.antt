@@ -45,7 +45,8 @@ returns-after-i-posts c =
     let p : c .args .j % 3 ≡ 2 = omega arith in
     let q = c .pre .0 .post-count in
     let e : c .if-i-posts .next ≡ up (o .posts) i = next-is (o .posts) i (c .if-i-posts .next)
-      (elim (c .if-i-posts .came) [
-        then-i-posts w ↦ inl (w .next-is, omega (arith, w .if-i-posts .taken))
-      | else-i-posts w ↦ inr (w .next-is, omega (arith, w .if-i-posts .left)) ]) in
+    (elim (c .if-i-posts .came) [
+      | then-i-posts w ↦ inl (w .next-is, omega (arith, w .if-i-posts .taken))
+      | else-i-posts w ↦ inr (w .next-is, omega (arith, w .if-i-posts .left))
+    ]) in
     rw p (c .in-range-in-rest .ensures ∙ (ap (λ x. heardIn (o .k) (postAt m x .memory)) e ∙ sym (numbers-heard o (o .posts) m (c .pre .0) (up (o .posts) i) (up-below (o .posts) i (omega arith)))))

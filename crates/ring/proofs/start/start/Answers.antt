@@ -37,4 +37,5 @@ returns c =
       fits = f;
       numbers = c .write-numbers .ensures;
       tally = c .begin .ensures ∙ begun-anew o m (fitting-whole o (m .posts) (m .lines) (c .args .numbers .now) f) s (c .write-numbers .ensures) (c .in-Ok .holders)
-        (accepted _ _ _ (sym (c .in-Ok .is) ∙ c .how-many-may .ensures) .1) }
+          (accepted _ _ _ (sym (c .in-Ok .is) ∙ c .how-many-may .ensures) .1);
+    }

@@ -37,7 +37,8 @@ returns-then-is-blank c =
       tally = sym (ap (λ (z : Stage). z .tally) e);
       says = subst (Adds (c .args .self .now) (c .args .self .now)) (sym (blank-says o text x n b)) (adds-none (c .args .self .now));
       sound = c .pre .0;
-      moves = omega arith }
+      moves = omega arith;
+    }
 
 pub returns-in-Err : need.returns-in-Err
 returns-in-Err c =
@@ -56,12 +57,13 @@ returns-in-Err c =
     let y = c .refuse .ensures .tally in
     record {
       holds = whichever (c .refuse .result)
-        (subst (λ z. Holds o (z .machine) (m .posts) (m .lines) (c .args .numbers .now)) (sym e) (record { posts = refl; lines = refl; numbers = c .pre .1 .0 }))
-        (record { posts = refl; lines = refl; numbers = c .pre .1 .0 });
+          (subst (λ z. Holds o (z .machine) (m .posts) (m .lines) (c .args .numbers .now)) (sym e) (record { posts = refl; lines = refl; numbers = c .pre .1 .0 }))
+          (record { posts = refl; lines = refl; numbers = c .pre .1 .0 });
       tally = always-made (c .refuse .result) (y ∙ sym (ap (λ (z : Stage). z .tally) e));
       says = subst (λ z. made (c .refuse .result) (λ _. Adds (c .args .self .now) (c .refuse .last .self) z)) (sym (refused-says o text x n b (c .in-Err .fault) g)) (c .refuse .ensures .says);
       sound = always-made (c .refuse .result) (subst (Sound o m) (sym y) (c .pre .0));
-      moves = always-made (c .refuse .result) (omega (arith, ap (λ (t : Tally). t .moves) y)) }
+      moves = always-made (c .refuse .result) (omega (arith, ap (λ (t : Tally). t .moves) y));
+    }
 
 pub obey-self-requires : need.obey-self-requires
 obey-self-requires c κs =
@@ -103,12 +105,13 @@ returns-in-Show c =
     let y = c .show .ensures .tally in
     record {
       holds = whichever (c .show .result)
-        (subst (λ z. Holds o (z .machine) (m .posts) (m .lines) (c .args .numbers .now)) (sym e) (record { posts = refl; lines = refl; numbers = c .pre .1 .0 }))
-        (record { posts = refl; lines = refl; numbers = c .pre .1 .0 });
+          (subst (λ z. Holds o (z .machine) (m .posts) (m .lines) (c .args .numbers .now)) (sym e) (record { posts = refl; lines = refl; numbers = c .pre .1 .0 }))
+          (record { posts = refl; lines = refl; numbers = c .pre .1 .0 });
       tally = always-made (c .show .result) (y ∙ sym (ap (λ (z : Stage). z .tally) e));
       says = subst (λ z. made (c .show .result) (λ _. Adds (c .args .self .now) (c .show .last .self) z)) (sym t) (shown-so (λ ls. c .args .numbers .now ≡ stateIn o (record { posts = m .posts; lines = ls })) (λ ls. Adds (c .args .self .now) (c .show .last .self) (show o (c .in-Ok .command .post) (record { posts = m .posts; lines = ls }) ∷ [])) (c .show .result) (m .lines) (c .show .ensures .says) (c .pre .1 .0));
       sound = always-made (c .show .result) (subst (Sound o m) (sym y) (c .pre .0));
-      moves = always-made (c .show .result) (omega (arith, ap (λ (t : Tally). t .moves) y)) }
+      moves = always-made (c .show .result) (omega (arith, ap (λ (t : Tally). t .moves) y));
+    }
 
 pub returns-in-rest : need.returns-in-rest
 returns-in-rest c =
@@ -128,7 +131,7 @@ returns-in-rest c =
     let w = sym (ap errPart (c .in-Ok .is)) ∙ f in
     let p = c .in-Ok .command .post in
     let e : lineStage o text x ≡ obeyed o (c .from-post .result) (c .in-Ok .command .order) x =
-      order-stage o text x n b (c .in-Ok .command) w v ∙ ap (λ i. obeyed o i (c .in-Ok .command .order) x) (sym (c .from-post .ensures)) in
+    order-stage o text x n b (c .in-Ok .command) w v ∙ ap (λ i. obeyed o i (c .in-Ok .command .order) x) (sym (c .from-post .ensures)) in
     let t : lineSays o n text m ≡ [] = order-says o text x n b (c .in-Ok .command) w v ∙ quiet-order o p (c .in-Ok .command .order) m (c .in-rest .not-Show) in
     let h = c .obey-self .ensures .holds in
     let y = c .obey-self .ensures .tally in
@@ -140,4 +143,5 @@ returns-in-rest c =
       tally = y ∙ sym (ap (λ (z : Stage). z .tally) e);
       says = subst (Adds r (record { said = r .said; numbers = r .numbers; speakers = r .speakers; tally = c .obey-self .result })) (sym t) (record { said = a .said; numbers = a .numbers; speakers = a .speakers });
       sound = holds-sound o (obeyed o (c .from-post .result) (c .in-Ok .command .order) x .machine) (c .obey-self .last .posts) (c .obey-self .last .lines) (c .obey-self .last .numbers) (c .obey-self .result) (obeyed o (c .from-post .result) (c .in-Ok .command .order) x .tally) h y g;
-      moves = omega (arith, ap (λ (z : Tally). z .moves) y, obeyed-moves o (c .from-post .result) (c .in-Ok .command .order) x) }
+      moves = omega (arith, ap (λ (z : Tally). z .moves) y, obeyed-moves o (c .from-post .result) (c .in-Ok .command .order) x);
+    }

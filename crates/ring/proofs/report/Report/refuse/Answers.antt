@@ -9,4 +9,5 @@ returns c =
     let r = c .args .self .now in
     record {
       says = record { said = c .in-Continue-push .ensures tt .items; numbers = sym (append-nil (vec-items (r .numbers))); speakers = sym (append-nil (vec-items (r .speakers))) };
-      tally = refl }
+      tally = refl;
+    }

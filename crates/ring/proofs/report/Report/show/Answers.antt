@@ -17,9 +17,11 @@ returns c =
     let p = c .args .post in
     record {
       says = λ ls e.
-        record {
-          said = c .in-Continue-push .ensures tt .items ∙
-            ap (λ i. vec-items (r .said) ++ Shown p (getD ps i nobody .memory .moves) (getD ps i nobody .memory .since) ∷ []) (c .from .ensures);
-          numbers = c .in-Continue-extend-from-slice .ensures tt .items ∙ ap (λ s. vec-items (r .numbers) ++ s) (e ∙ sym (append-nil (stateIn o (record { posts = ps; lines = ls }))));
-          speakers = c .in-Continue-push-speakers .ensures tt ∙ ap (λ s. vec-items (r .speakers) ++ s) (sym (append-nil (speakersIn o (record { posts = ps; lines = ls })))) };
-      tally = refl }
+          record {
+            said = c .in-Continue-push .ensures tt .items ∙
+                ap (λ i. vec-items (r .said) ++ Shown p (getD ps i nobody .memory .moves) (getD ps i nobody .memory .since) ∷ []) (c .from .ensures);
+            numbers = c .in-Continue-extend-from-slice .ensures tt .items ∙ ap (λ s. vec-items (r .numbers) ++ s) (e ∙ sym (append-nil (stateIn o (record { posts = ps; lines = ls }))));
+            speakers = c .in-Continue-push-speakers .ensures tt ∙ ap (λ s. vec-items (r .speakers) ++ s) (sym (append-nil (speakersIn o (record { posts = ps; lines = ls }))));
+          };
+      tally = refl;
+    }
