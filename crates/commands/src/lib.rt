@@ -1,4 +1,6 @@
 // Units of bytes: orders to the posts of a ring, and what the program of one post reads. Assumes nothing.
+#![tactic(auto)]
+
 mod order;
 mod post;
 

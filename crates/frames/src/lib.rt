@@ -1,4 +1,6 @@
 // Units of bytes: settings, frames and lists of numbers; and the names of members. Assumes nothing.
+#![tactic(auto)]
+
 mod frame;
 mod member;
 mod numbers;

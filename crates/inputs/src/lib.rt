@@ -1,4 +1,6 @@
 // What a program is called with, units from its input, and why it stops. Assumes nothing.
+#![tactic(auto)]
+
 mod call;
 mod input;
 

@@ -1,4 +1,6 @@
 // Units of bytes in general: faults and the one rule for them, lines of hexadecimal text, rows of numbers. Assumes nothing.
+#![tactic(auto)]
+
 mod fault;
 mod line;
 mod read_error;

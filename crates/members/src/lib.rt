@@ -1,5 +1,7 @@
 // A ring of members by Dijkstra's K-state rule: functions over a lent slice with the number of each member, member 0 first.
 // Bad arguments are refused by the answer, with nothing changed.
+#![tactic(auto)]
+
 mod checks;
 mod guard;
 mod holders;

@@ -1,4 +1,6 @@
 // order: reads settings and the numbers of all members, and prints whether one only may move, and if so after how many moves each post may.
+#![tactic(auto)]
+
 mod help;
 mod telling;
 mod tidings;
@@ -33,7 +35,7 @@ fn run(rt: &HostRuntime) -> Result<(), Stop> {
         return Ok(());
     }
     let heap = rt.alloc();
-    let mut input = BufReader::new(rt.stdin());
+    let mut input = BufReader::new(heap, rt.stdin())?;
     let mut lines = 0;
     let mut text = Vec::new(heap);
     let mut bytes = Vec::new(heap);

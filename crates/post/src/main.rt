@@ -1,4 +1,6 @@
 // post: one post of a ring. It reads settings, its place, and then frames and orders line by line, and answers each before it reads the next.
+#![tactic(auto)]
+
 mod answering;
 mod help;
 mod reply;
@@ -43,7 +45,7 @@ fn run(rt: &HostRuntime) -> Result<(), Stop> {
     if answer_help(rt, &HELP)? {
         return Ok(());
     }
-    let mut input = BufReader::new(rt.stdin());
+    let mut input = BufReader::new(rt.alloc(), rt.stdin())?;
     let mut lines = 0;
     let mut text = Vec::new(rt.alloc());
     let mut bytes = Vec::new(rt.alloc());

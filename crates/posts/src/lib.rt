@@ -1,4 +1,6 @@
 // One post of the ring: its memory, what it is told, and what it does. Assumes nothing.
+#![tactic(auto)]
+
 mod act;
 mod deeds;
 mod memory;

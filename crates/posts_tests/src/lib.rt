@@ -1,3 +1,5 @@
+#![tactic(auto)]
+
 // Examples of posts and their memories. Assumes nothing.
 #[cfg(test)]
 mod tests;

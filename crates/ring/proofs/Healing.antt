@@ -8,7 +8,7 @@ use Rattle.members.specs.Turns.{Alone}
 use Rattle.members.proofs.Runs.{main, run_healed, each_once, alone}
 use Rattle.posts.specs.Steps.{deeds_in, has_token}
 use Rattle.ring.specs.Machine.{Machine, Whole, post_at, Event, tick, hear, lose, press, release, post_of, Among, step, run, numbers_of, state_in, moves_in, speaks_at, speakings, ticks_one, ticks_of}
-use Rattle.ring.specs.Numbers.{preceding, end_before, moves, sends, acts, state_of}
+use Rattle.ring.specs.Numbers.{preceding, end_before, acts, state_of}
 use Rattle.ring.specs.Promise.{ring_of_settings, HealedIn, Orderly, Heals, SpeaksAlone}
 use Rattle.ring.proofs.Machines.{doing_numbers, hear_numbers, lose_numbers, button_numbers, machine_fit}
 use Rattle.ring.proofs.Places.{preceding_below}

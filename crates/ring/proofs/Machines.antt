@@ -16,7 +16,7 @@ use Rattle.posts.specs.Steps.{number_carried, hear_step, hear_by}
 use Rattle.posts.proofs.Norms.{norm_below, norm_is}
 use Rattle.ring.specs.declared.line.Line.{Line}
 use Rattle.ring.specs.Machine.{Machine, Whole, nobody, unused, post_at, line_at, sent_on, tick_doing_of, hear_of, lose_of, button_of, numbers_of}
-use Rattle.ring.specs.Numbers.{Numbers, Fit, preceding, moves, sends, hears, acts}
+use Rattle.ring.specs.Numbers.{Numbers, Fit, preceding, hears, acts}
 use Rattle.ring.proofs.Places.{preceding_below}
 
 -- the number in a frame is the one that was written

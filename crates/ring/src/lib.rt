@@ -1,4 +1,6 @@
 // All posts and lines of a ring together. Assumes nothing.
+#![tactic(auto)]
+
 mod counting;
 mod line;
 mod machine;

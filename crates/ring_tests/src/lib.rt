@@ -1,3 +1,5 @@
+#![tactic(auto)]
+
 // Examples of scripts that are played on a ring of two posts. Assumes nothing.
 #[cfg(test)]
 mod tests;

@@ -1,4 +1,6 @@
 // storm: plays all posts and lines of a ring by a script of orders, and prints what each show saw, each refused line, and when the ring was healed.
+#![tactic(auto)]
+
 mod help;
 mod printing;
 
@@ -52,7 +54,7 @@ fn run(rt: &HostRuntime) -> Result<(), Stop> {
         return Ok(());
     }
     let heap = rt.alloc();
-    let mut input = BufReader::new(rt.stdin());
+    let mut input = BufReader::new(heap, rt.stdin())?;
     let mut text = Vec::new(heap);
     let mut bytes = Vec::new(heap);
     let mut before = 0;

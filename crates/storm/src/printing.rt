@@ -112,7 +112,7 @@ impl Printer {
     }
 
     pub fn print(self, rt: &HostRuntime, report: &Report) -> Result<(), Stop> {
-        let mut out = BufWriter::new(rt.stdout());
+        let mut out = BufWriter::new(rt.alloc(), rt.stdout())?;
         let mut numbers = report.numbers.as_slice();
         let mut speakers = report.speakers.as_slice();
         for said in report.said.iter() {

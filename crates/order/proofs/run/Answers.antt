@@ -6,9 +6,9 @@ use Rattle.order.proofs.run.Goals as goal
 
 pub tell-requires : goal.tell-requires
 tell-requires c =
-    let o = c.in-ok-settings.settings in
-    let e = was_read _ _ _ _ c.in-ok-numbers.ensures.value in (
-      c.as-slice-3.ensures.len ∙ subst (λ r. IfOk r (λ v. vec_len v ≡ 3 * o.posts)) e c.read-numbers.ensures.len,
-      subst (All (λ (x : ℕ). x < o.k)) (sym c.as-slice-3.ensures.value)
-          (subst (λ r. IfOk r (λ v. All (λ (x : ℕ). x < o.k) (vec_items v))) e c.read-numbers.ensures.below),
+    let o = c.in_ok-settings.settings in
+    let e = was_read _ _ _ _ c.in_ok-numbers.ensures.value in (
+      c.as_slice-3.ensures.len ∙ subst (λ r. IfOk r (λ v. vec_len v ≡ 3 * o.posts)) e c.read_numbers.ensures.len,
+      subst (All (λ (x : ℕ). x < o.k)) (sym c.as_slice-3.ensures.value)
+          (subst (λ r. IfOk r (λ v. All (λ (x : ℕ). x < o.k) (vec_items v))) e c.read_numbers.ensures.below),
     )

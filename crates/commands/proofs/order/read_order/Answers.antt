@@ -10,8 +10,8 @@ use Rattle.commands.specs.OrderUnit.{what_fields, order_checks}
 use Rattle.commands.proofs.OrderLaws.{kind_missing, kind_wrong, post_missing, post_refused, post_accepted, reads_order, order_back, accepts_orders}
 use Rattle.commands.proofs.order.read_order.Goals as goal
 
-pub returns-in-default : goal.returns-in-default
-returns-in-default c =
+pub returns-in_default : goal.returns-in_default
+returns-in_default c =
     let n = c.args.settings.now.posts in
     let bs = c.args.bytes.now in
     let fs = what_fields (get_or bs 2 0) in
@@ -28,8 +28,8 @@ returns-then-kind-ne-KIND c =
     let e = kind_wrong bs (first_fault (order_checks n bs)) (λ p. ltb p n) fs (reads_order n bs) (omega (arith, ltb-false)) c.if-kind-ne-KIND.true in
     record { fault = e; first = is_first _ _ e; value = tt; below = tt; complete = accepts_orders n bs _ e }
 
-pub returns-in-default-default : goal.returns-in-default-default
-returns-in-default-default c =
+pub returns-in_default-rest : goal.returns-in_default-rest
+returns-in_default-rest c =
     let n = c.args.settings.now.posts in
     let bs = c.args.bytes.now in
     let fs = what_fields (get_or bs 2 0) in
@@ -49,8 +49,8 @@ returns-then-post-settings c =
     (le-ltb (get_or bs 1 0) n (omega (arith, c.if-post-settings.true))) in
     record { fault = e; first = is_first _ _ e; value = tt; below = tt; complete = accepts_orders n bs _ e }
 
-pub returns-in-err-order : goal.returns-in-err-order
-returns-in-err-order c =
+pub returns-in_err-order : goal.returns-in_err-order
+returns-in_err-order c =
     let n = c.args.settings.now.posts in
     let bs = c.args.bytes.now in
     let fs = what_fields (get_or bs 2 0) in
@@ -62,8 +62,8 @@ returns-in-err-order c =
     let rest = rest_after 1 (rest_after 1 bs) in
     let same : reading_fault (what_fields (get_or rest 0 0)) rest ≡ first_fault (order_checks n bs) =
     ap (λ w. reading_fault (what_fields w) rest) at.third ∙ ap (reading_fault fs) at.second_rest ∙ sym left in
-    let p = err_from_is_err_and c.from-residual.result c.from-residual.ensures.1 in
-    let e : Some c.in-err-order.field-0.0 ≡ first_fault (order_checks n bs) = c.in-err-order.ensures.fault ∙ same in
+    let p = err_from_is_err_and c.from_residual.result c.from_residual.ensures.1 in
+    let e : Some c.in_err-order.field-0.0 ≡ first_fault (order_checks n bs) = c.in_err-order.ensures.fault ∙ same in
     rw (p.1, p.2) record { fault = e; first = is_first _ _ e; value = tt; below = tt; complete = accepts_orders n bs _ e }
 
 pub returns : goal.returns
@@ -79,7 +79,7 @@ returns c =
     let rest = rest_after 1 (rest_after 1 bs) in
     let same : reading_fault (what_fields (get_or rest 0 0)) rest ≡ first_fault (order_checks n bs) =
     ap (λ w. reading_fault (what_fields w) rest) at.third ∙ ap (reading_fault fs) at.second_rest ∙ sym left in
-    let told = c.in-ok-order.ensures in
+    let told = c.in_ok-order.ensures in
     let e : None ≡ first_fault (order_checks n bs) = told.fault ∙ same in
     record {
       fault = e;

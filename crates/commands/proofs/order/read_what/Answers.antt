@@ -25,8 +25,8 @@ returns-in-Ok c =
     let p = what_whole c.args.bytes.now 4 (omega (arith, ltb-false)) c.in-4.is refl c.in-Ok.memory whole.1.same whole.1.long in
     record { fault = p.0; value = p.1 }
 
-pub returns-in-Ok-try-from : goal.returns-in-Ok-try-from
-returns-in-Ok-try-from c =
-    let whole = c.in-Ok-try-from.ensures in
-    let p = what_whole c.args.bytes.now 5 (omega (arith, ltb-false)) c.in-5.is refl c.in-Ok-try-from.frame whole.1.same whole.1.long in
+pub returns-in-Ok-try_from : goal.returns-in-Ok-try_from
+returns-in-Ok-try_from c =
+    let whole = c.in-Ok-try_from.ensures in
+    let p = what_whole c.args.bytes.now 5 (omega (arith, ltb-false)) c.in-5.is refl c.in-Ok-try_from.frame whole.1.same whole.1.long in
     record { fault = p.0; value = p.1 }

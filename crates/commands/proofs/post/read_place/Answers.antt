@@ -11,8 +11,8 @@ use Rattle.commands.specs.PostUnit.{place_checks}
 use Rattle.commands.proofs.PostLaws.{reads_place}
 use Rattle.commands.proofs.post.read_place.Goals as goal
 
-pub returns-in-default : goal.returns-in-default
-returns-in-default c =
+pub returns-in_default : goal.returns-in_default
+returns-in_default c =
     let n = c.args.settings.now.posts in
     let bs = c.args.bytes.now in
     let fault = first_fault (place_checks n bs) in
@@ -28,26 +28,26 @@ returns-then-place-settings c =
     (le-ltb (get_or bs 0 0) n c.if-place-settings.true) in
     record { fault = e; first = is_first _ _ e; value = tt; below = tt }
 
-pub returns-else-is-empty : goal.returns-else-is-empty
-returns-else-is-empty c =
+pub returns-else-is_empty : goal.returns-else-is_empty
+returns-else-is_empty c =
     let n = c.args.settings.now.posts in
     let bs = c.args.bytes.now in
     let fault = first_fault (place_checks n bs) in
     let there : 1 ≤ length bs = omega (arith, ltb-false) in
     let left = byte_accepted bs fault 0 OutOfRange (λ p. ltb p n) [] (reads_place n bs) there (lt-ltb (get_or bs 0 0) n c.if-place-settings.false) in
     let long = rest_long bs 1 (rest_after 1 bs) (rest_after_lem bs 0 1 bs refl) in
-    let more = eqb-false (length (rest_after 1 bs)) 0 (sym c.if-is-empty.ensures) in
+    let more = eqb-false (length (rest_after 1 bs)) 0 (sym c.if-is_empty.ensures) in
     let e = too_long bs fault 1 left (omega arith) in
     record { fault = e; first = is_first _ _ e; value = tt; below = tt }
 
-pub returns-then-is-empty : goal.returns-then-is-empty
-returns-then-is-empty c =
+pub returns-then-is_empty : goal.returns-then-is_empty
+returns-then-is_empty c =
     let n = c.args.settings.now.posts in
     let bs = c.args.bytes.now in
     let fault = first_fault (place_checks n bs) in
     let there : 1 ≤ length bs = omega (arith, ltb-false) in
     let left = byte_accepted bs fault 0 OutOfRange (λ p. ltb p n) [] (reads_place n bs) there (lt-ltb (get_or bs 0 0) n c.if-place-settings.false) in
     let long = rest_long bs 1 (rest_after 1 bs) (rest_after_lem bs 0 1 bs refl) in
-    let none = eqb-true (length (rest_after 1 bs)) 0 (sym c.if-is-empty.ensures) in
+    let none = eqb-true (length (rest_after 1 bs)) 0 (sym c.if-is_empty.ensures) in
     let e = at_end bs fault 1 left (omega arith) in
     record { fault = e; first = is_first _ _ e; value = sym (all_items 1 bs (omega arith)); below = c.if-place-settings.false }

@@ -12,8 +12,8 @@ use Rattle.commands.proofs.OrderLaws.{kind_missing, kind_wrong, post_missing, po
 use Rattle.commands.proofs.PostLaws.{reads_post_order}
 use Rattle.commands.proofs.post.read_post_order.Goals as goal
 
-pub returns-in-default : goal.returns-in-default
-returns-in-default c =
+pub returns-in_default : goal.returns-in_default
+returns-in_default c =
     let bs = c.args.bytes.now in
     let place = c.args.place in
     let at = rests bs in
@@ -28,8 +28,8 @@ returns-then-kind-ne-KIND c =
     let e = kind_wrong bs (first_fault (post_order_checks place bs)) (λ p. eqb p place) (post_what_field ∷ []) (reads_post_order place bs) (omega (arith, ltb-false)) c.if-kind-ne-KIND.true in
     record { fault = e; first = is_first _ _ e; value = tt }
 
-pub returns-in-default-default : goal.returns-in-default-default
-returns-in-default-default c =
+pub returns-in_default-rest : goal.returns-in_default-rest
+returns-in_default-rest c =
     let bs = c.args.bytes.now in
     let place = c.args.place in
     let at = rests bs in
@@ -53,17 +53,17 @@ returns c =
     let place = c.args.place in
     let at = rests bs in
     let rest = rest_after 1 (rest_after 1 bs) in
-    let r = c.read-post-what.result in
+    let r = c.read_post_what.result in
     let long : 2 ≤ length bs = omega (arith, ltb-false) in
     let here : get_or bs 1 0 ≡ place = sym at.second ∙ c.if-post-place.false in
     let left = post_accepted bs (first_fault (post_order_checks place bs)) (λ p. eqb p place) (post_what_field ∷ []) (reads_post_order place bs) (omega arith)
     c.if-kind-ne-KIND.false long (eq-eqb (get_or bs 1 0) place here) in
     let e : result_err r ≡ first_fault (post_order_checks place bs) =
-    c.read-post-what.ensures.fault ∙ ap (reading_fault (post_what_field ∷ [])) at.second_rest ∙ sym left in
+    c.read_post_what.ensures.fault ∙ ap (reading_fault (post_what_field ∷ [])) at.second_rest ∙ sym left in
     record {
       fault = e;
       first = is_first _ _ e;
       value =
           IfOk-weaker r (λ o. post_what o ∷ [] ≡ rest) (λ o. post_order_bytes place o ≡ bs)
-          (λ o v. order_back bs place (post_what o ∷ []) long c.if-kind-ne-KIND.false (sym here) (v ∙ at.second_rest)) c.read-post-what.ensures.value;
+          (λ o v. order_back bs place (post_what o ∷ []) long c.if-kind-ne-KIND.false (sym here) (v ∙ at.second_rest)) c.read_post_what.ensures.value;
     }

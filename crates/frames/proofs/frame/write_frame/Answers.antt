@@ -10,11 +10,11 @@ returns c =
     let p = c.args.post in
     let x = c.args.number in
     let s = c.checksum.result in
-    let number = c.to-be-bytes.result in
-    let sum = c.to-be-bytes-2.result in
-    let high : get_or number 0 0 ≡ x / 256 = ap (λ bs. get_or bs 0 0) c.to-be-bytes.ensures ∙ omega arith in
-    let low : get_or number 1 0 ≡ x % 256 = ap (λ bs. get_or bs 1 0) c.to-be-bytes.ensures in
-    let sum_high : get_or sum 0 0 ≡ s / 256 = ap (λ bs. get_or bs 0 0) c.to-be-bytes-2.ensures ∙ omega (arith, c.checksum.type-inv) in
-    let sum_low : get_or sum 1 0 ≡ s % 256 = ap (λ bs. get_or bs 1 0) c.to-be-bytes-2.ensures in
+    let number = c.to_be_bytes.result in
+    let sum = c.to_be_bytes-2.result in
+    let high : get_or number 0 0 ≡ x / 256 = ap (λ bs. get_or bs 0 0) c.to_be_bytes.ensures ∙ omega arith in
+    let low : get_or number 1 0 ≡ x % 256 = ap (λ bs. get_or bs 1 0) c.to_be_bytes.ensures in
+    let sum_high : get_or sum 0 0 ≡ s / 256 = ap (λ bs. get_or bs 0 0) c.to_be_bytes-2.ensures ∙ omega (arith, c.checksum.type_inv) in
+    let sum_low : get_or sum 1 0 ≡ s % 256 = ap (λ bs. get_or bs 1 0) c.to_be_bytes-2.ensures in
     let is : s ≡ sum_of (1 ∷ p ∷ get_or number 0 0 ∷ get_or number 1 0 ∷ []) = c.checksum.ensures in
     cc

@@ -26,32 +26,32 @@ told_first s bs n o e h =
     h ∙ ap (λ m. reading_fault (replicate m (member_number s.k)) bs) (lent_places 63 n (3 * s.posts) e (omega (arith, s.few)))
     ∙ sym (reading_first bs (numbers_fields s) (words_laid NumberTooLarge (s.k - 1) (3 * s.posts)))
 
-pub returns-in-err-read-words : goal.returns-in-err-read-words
+pub returns-in_err-read_words : goal.returns-in_err-read_words
 unfolding places
-returns-in-err-read-words c =
-    let p = err_from_is_err_and c.from-residual.result c.from-residual.ensures.1 in
-    let e = told_first c.args.settings.now c.args.bytes.now c.members.result (Some c.in-err-read-words.field-0.0) c.members.ensures
-    c.in-err-read-words.ensures.fault in
+returns-in_err-read_words c =
+    let p = err_from_is_err_and c.from_residual.result c.from_residual.ensures.1 in
+    let e = told_first c.args.settings.now c.args.bytes.now c.members.result (Some c.in_err-read_words.field-0.0) c.members.ensures
+    c.in_err-read_words.ensures.fault in
     rw (p.1, p.2) record { fault = e; first = is_first _ _ e; value = tt; len = tt; below = tt }
 
-pub returns-in-err-from-slice : goal.returns-in-err-from-slice
+pub returns-in_err-from_slice : goal.returns-in_err-from_slice
 unfolding places
-returns-in-err-from-slice c =
-    let p = err_from_is_err_and c.from-residual-in-err-from-slice.result c.from-residual-in-err-from-slice.ensures.1 in
+returns-in_err-from_slice c =
+    let p = err_from_is_err_and c.from_residual-in_err-from_slice.result c.from_residual-in_err-from_slice.ensures.1 in
     let e = told_first c.args.settings.now c.args.bytes.now c.members.result None c.members.ensures
-    c.in-ok-read-words.ensures.fault in
+    c.in_ok-read_words.ensures.fault in
     rw (p.1, p.2) record { fault = e; first = is_first _ _ e; value = tt; len = tt; below = tt }
 
 pub returns : goal.returns
 unfolding places
 returns c =
-    let told = c.in-ok-read-words.ensures in
+    let told = c.in_ok-read_words.ensures in
     let s = c.args.settings.now in
-    let v = c.in-ok-from-slice.field-0 in
-    let words = c.read-words.new.words in
-    let copied : vec_items v ≡ words = c.in-ok-from-slice.ensures.items in
-    let long : vec_len v ≡ length words = c.in-ok-from-slice.ensures.len in
-    let kept : length words ≡ places c.members.result = c.read-words.auto.words in
+    let v = c.in_ok-from_slice.field-0 in
+    let words = c.read_words.new.words in
+    let copied : vec_items v ≡ words = c.in_ok-from_slice.ensures.items in
+    let long : vec_len v ≡ length words = c.in_ok-from_slice.ensures.len in
+    let kept : length words ≡ places c.members.result = c.read_words.auto.words in
     let bytes : words_bytes words ≡ c.args.bytes.now = told.value in
     let below : All (λ x. x ≤ s.k - 1) words = told.bound in
     let e = told_first s c.args.bytes.now c.members.result None c.members.ensures told.fault in

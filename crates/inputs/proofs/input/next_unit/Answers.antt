@@ -14,48 +14,48 @@ another a n h e = omega (arith, h, e)
 first : {b : ℕ} (a n : ℕ) → GoesUp (a + (n + 1)) b → GoesUp (a + 1) b
 first a n h = omega (arith, h)
 
-pub returns-in-err-read-until : goal.returns-in-err-read-until
-returns-in-err-read-until g c = record { unit = search rules; stop = search rules; count = some c.args.lines.now c.loop-turn.-turn c.loop-turn.invariant }
+pub returns-in_err-read_until : goal.returns-in_err-read_until
+returns-in_err-read_until g c = record { unit = search rules; stop = search rules; count = some c.args.lines.now c.loop-turn._turn c.loop-turn.invariant }
 
 pub returns-then-branch-eq0 : goal.returns-then-branch-eq0
 returns-then-branch-eq0 g c =
     record {
-      unit = inl (omega (arith, c.in-ok-read-until.ensures.ok, c.if-branch-eq0.true, c.clear.ensures.len));
+      unit = inl (omega (arith, c.in_ok-read_until.ensures.ok, c.if-branch-eq0.true, c.clear.ensures.len));
       stop = tt;
-      count = some c.args.lines.now c.loop-turn.-turn c.loop-turn.invariant;
+      count = some c.args.lines.now c.loop-turn._turn c.loop-turn.invariant;
     }
 
-pub returns-in-err-ending : goal.returns-in-err-ending
-returns-in-err-ending g c =
+pub returns-in_err-ending : goal.returns-in_err-ending
+returns-in_err-ending g c =
     let before = c.args.lines.now in
-    let n = c.loop-turn.-turn in
-    let read : 0 < vec_len c.read-until.new.buf = omega (arith, c.in-ok-read-until.ensures.ok, c.if-branch-eq0.false) in
+    let n = c.loop-turn._turn in
+    let read : 0 < vec_len c.read_until.new.buf = omega (arith, c.in_ok-read_until.ensures.ok, c.if-branch-eq0.false) in
     record {
       unit = search rules;
       stop = search (rules, read);
-      count = some before (n + 1) (another before n c.loop-turn.invariant c.take-line.ensures.count);
+      count = some before (n + 1) (another before n c.loop-turn.invariant c.take_line.ensures.count);
     }
 
 pub returns-in-Some : goal.returns-in-Some
 returns-in-Some g c =
     let before = c.args.lines.now in
-    let n = c.loop-turn.-turn in
-    let counted = another before n c.loop-turn.invariant c.take-line.ensures.count in
-    let bytes = vec_items c.take-line.new.bytes in
-    let taken = subst (λ o. Takes c.as-slice.result.now bytes o) c.in-Some.is c.in-ok-ending.ensures.unit in
+    let n = c.loop-turn._turn in
+    let counted = another before n c.loop-turn.invariant c.take_line.ensures.count in
+    let bytes = vec_items c.take_line.new.bytes in
+    let taken = subst (λ o. Takes c.as_slice.result.now bytes o) c.in-Some.is c.in_ok-ending.ensures.unit in
     record {
-      unit = (subst (λ t. Takes t bytes (Some c.in-Some.ending)) c.as-slice.ensures.value taken, first before n counted);
+      unit = (subst (λ t. Takes t bytes (Some c.in-Some.ending)) c.as_slice.ensures.value taken, first before n counted);
       stop = tt;
       count = some before (n + 1) counted;
     }
 
 pub loop-turn-preserved : goal.loop-turn-preserved
-loop-turn-preserved g c = another c.args.lines.now c.loop-turn.-turn c.loop-turn.invariant c.take-line.ensures.count
+loop-turn-preserved g c = another c.args.lines.now c.loop-turn._turn c.loop-turn.invariant c.take_line.ensures.count
 
 pub returns : goal.returns
 returns g c =
     record {
       unit = inr (omega (arith, c.loop-turn.invariant, c.loop-turn-test.false));
       stop = tt;
-      count = some c.args.lines.now c.loop-turn.-turn c.loop-turn.invariant;
+      count = some c.args.lines.now c.loop-turn._turn c.loop-turn.invariant;
     }

@@ -4,4 +4,4 @@ use Rattle.inputs.specs.Taken.{GoesUp}
 use Rattle.inputs.proofs.input.next_unit.Given as goal
 
 abbrev pub invariant-loop-turn : goal.invariant-loop-turn
-invariant-loop-turn t l = GoesUp (l.initial.lines + l.-turn) l.lines
+invariant-loop-turn t l = GoesUp (l.initial.lines + l._turn) l.lines

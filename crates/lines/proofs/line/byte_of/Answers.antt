@@ -4,15 +4,15 @@ use Rattle.std.proofs.lemmas.Bool.{and_from, and_right}
 use Rattle.lines.proofs.LineLaws.{digit_is, digit_small, no_digit}
 use Rattle.lines.proofs.line.byte_of.Goals as goal
 
-pub returns-in-default-classify : goal.returns-in-default-classify
-returns-in-default-classify c =
-    and_right _ _ (no_digit c.args.low (λ d e. c.in-default-classify.not-Digit d (c.classify-2.ensures ∙ e)))
+pub returns-in_default-classify : goal.returns-in_default-classify
+returns-in_default-classify c =
+    and_right _ _ (no_digit c.args.low (λ d e. c.in_default-classify.not-Digit d (c.classify-2.ensures ∙ e)))
 
-pub overflow-mul-result : goal.overflow-mul-result
-overflow-mul-result c = omega (arith, digit_small c.args.high c.in-Digit.high c.in-Digit.ensures)
+pub overflow_mul-result : goal.overflow_mul-result
+overflow_mul-result c = omega (arith, digit_small c.args.high c.in-Digit.high c.in-Digit.ensures)
 
-pub overflow-add-result : goal.overflow-add-result
-overflow-add-result c =
+pub overflow_add-result : goal.overflow_add-result
+overflow_add-result c =
     omega (arith, digit_small c.args.high c.in-Digit.high c.in-Digit.ensures, digit_small c.args.low c.in-Digit-classify.low c.in-Digit-classify.ensures)
 
 pub returns : goal.returns

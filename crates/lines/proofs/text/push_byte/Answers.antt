@@ -6,10 +6,10 @@ use Rattle.lines.specs.Hex.{byte_text}
 use Rattle.lines.proofs.HexText.{digit_encoded, pushed_two}
 use Rattle.lines.proofs.text.push_byte.Goals as goal
 
-pub returns-in-err-push : goal.returns-in-err-push
-returns-in-err-push c =
-    let p = err_from_is_err_and c.from-residual.result c.from-residual.ensures.1 in
-    let same : string_bytes c.push.new.self ≡ string_bytes c.args.text.now = c.in-err-push.ensures.bytes in
+pub returns-in_err-push : goal.returns-in_err-push
+returns-in_err-push c =
+    let p = err_from_is_err_and c.from_residual.result c.from_residual.ensures.1 in
+    let same : string_bytes c.push.new.self ≡ string_bytes c.args.text.now = c.in_err-push.ensures.bytes in
     rw p.1 record { value = tt; first = (byte_text c.args.byte, ap (λ t. t ++ byte_text c.args.byte) same) }
 
 pub returns : goal.returns
@@ -20,7 +20,7 @@ returns c =
     let old = string_bytes c.args.text.now in
     let half = string_bytes c.push.new.self in
     let r = c.push-2.result in
-    let told = c.in-ok-push.ensures in
+    let told = c.in_ok-push.ensures in
     let one : half ≡ old ++ a ∷ [] = told.bytes ∙ ap (λ t. old ++ t) (digit_encoded _ _ (b / 16) c.digit.ensures (omega arith) told.ascii) in
     let two = pushed_two r old half (string_bytes c.push-2.new.self) a d one
     (c.push-2.ensures.bytes

@@ -7,10 +7,10 @@ use Rattle.lines.proofs.WordSteps.{short_fault, large_fault, next, no_fault, who
 use Rattle.lines.proofs.words.read_words.Goals as goal
 
 pub loop-word-init : goal.loop-word-init
-loop-word-init c = record { so_far = refl; untouched = refl; bounded = tt; same_fault = simp sub-zero; octets = λ j. omega (arith, c.type-inv.bytes j) }
+loop-word-init c = record { so_far = refl; untouched = refl; bounded = tt; same_fault = simp sub-zero; octets = λ j. omega (arith, c.type_inv.bytes j) }
 
-pub returns-in-default : goal.returns-in-default
-returns-in-default c =
+pub returns-in_default : goal.returns-in_default
+returns-in_default c =
     let at = c.loop-word.invariant in
     let n = c.loop-word.auto.words in
     record {
@@ -25,7 +25,7 @@ returns-then-value-largest c =
     let at = c.loop-word.invariant in
     let n = c.loop-word.auto.words in
     record {
-      fault = rw n at (large_fault at (omega arith) _ (omega (arith, ltb-false)) c.from-be-bytes-value.ensures c.if-value-largest.true);
+      fault = rw n at (large_fault at (omega arith) _ (omega (arith, ltb-false)) c.from_be_bytes-value.ensures c.if-value-largest.true);
       value = tt;
       bound = tt;
       first = (c.loop-word.word-index, c.loop-word.rest.now, simp set-get_or at.so_far, simp set-get_or at.untouched);
@@ -33,12 +33,12 @@ returns-then-value-largest c =
 
 pub loop-word-preserved : goal.loop-word-preserved
 loop-word-preserved c =
-    next c.loop-word.invariant (omega arith) _ (omega (arith, ltb-false)) c.from-be-bytes-value.ensures c.if-value-largest.false
+    next c.loop-word.invariant (omega arith) _ (omega (arith, ltb-false)) c.from_be_bytes-value.ensures c.if-value-largest.false
 
-pub returns-then-is-empty : goal.returns-then-is-empty
-returns-then-is-empty c =
+pub returns-then-is_empty : goal.returns-then-is_empty
+returns-then-is_empty c =
     let at = c.loop-word.invariant in
     let n = c.loop-word.auto.words in
     let all : length c.loop-word.words ≤ c.loop-word.word-index = omega arith in
-    let none : length c.loop-word.rest.now ≡ 0 = eqb-true (length c.loop-word.rest.now) 0 (sym c.if-is-empty.ensures) in
+    let none : length c.loop-word.rest.now ≡ 0 = eqb-true (length c.loop-word.rest.now) 0 (sym c.if-is_empty.ensures) in
     record { fault = rw n at (no_fault at all none); value = whole at all none; bound = all_bounded at all none; first = tt }

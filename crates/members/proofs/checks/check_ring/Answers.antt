@@ -8,7 +8,7 @@ pub returns-then-number-k : goal.returns-then-number-k
 returns-then-number-k c =
     let s = c.args.numbers.now in
     let f = below_fails c.args.k s c.loop-number.number-index (omega arith) (omega arith) in
-    let z = (accepted _ _ _ c.in-ok-check-size.ensures).0 in
+    let z = (accepted _ _ _ c.in_ok-check_size.ensures).0 in
     refuse _ _ _ (ring_refused c.args.k s z (sym c.loop-number.invariant ∙ f))
 
 pub loop-number-preserved : goal.loop-number-preserved
@@ -17,5 +17,5 @@ loop-number-preserved c = below_walk c.args.k c.args.numbers.now c.loop-number.n
 pub returns : goal.returns
 returns c =
     let s = c.args.numbers.now in
-    let z = (accepted _ _ _ c.in-ok-check-size.ensures).0 in
+    let z = (accepted _ _ _ c.in_ok-check_size.ensures).0 in
     gives _ _ _ (ring_taken c.args.k s z (sym c.loop-number.invariant ∙ below_done c.args.k s c.loop-number.number-index (omega arith))) refl

@@ -7,20 +7,20 @@ use Rattle.members.proofs.Answered.{gives, looked}
 use Rattle.members.proofs.OneMove.{betters}
 use Rattle.members.proofs.guard.make_move.Goals as goal
 
-pub returns-then-not-guard-holds : goal.returns-then-not-guard-holds
-returns-then-not-guard-holds c =
-    let h = looked c.args.k c.args.numbers.now c.args.i _ _ c.in-ok-before.ensures in
+pub returns-then-not-guard_holds : goal.returns-then-not-guard_holds
+returns-then-not-guard_holds c =
+    let h = looked c.args.k c.args.numbers.now c.args.i _ _ c.in_ok-before.ensures in
     let f : false ≡ may (ring_of c.args.k c.args.numbers.now) c.args.numbers.now c.args.i =
-    sym c.if-not-guard-holds.true ∙ (c.guard-holds.ensures ∙ h.may_is) in
+    sym c.if-not-guard_holds.true ∙ (c.guard_holds.ensures ∙ h.may_is) in
     record { value = gives _ _ _ h.taken f; after = search rules; better = λ e. search rules }
 
 pub returns : goal.returns
 returns c =
     let s = c.args.numbers.now in
     let r = ring_of c.args.k s in
-    let h = looked c.args.k s c.args.i _ _ c.in-ok-before.ensures in
-    let f : true ≡ may r s c.args.i = sym c.if-not-guard-holds.false ∙ (c.guard-holds.ensures ∙ h.may_is) in
-    let m : set s c.args.i c.number-taken.result ≡ moved r s c.args.i = ap (set s c.args.i) (c.number-taken.ensures ∙ h.next_is) in
+    let h = looked c.args.k s c.args.i _ _ c.in_ok-before.ensures in
+    let f : true ≡ may r s c.args.i = sym c.if-not-guard_holds.false ∙ (c.guard_holds.ensures ∙ h.may_is) in
+    let m : set s c.args.i c.number_taken.result ≡ moved r s c.args.i = ap (set s c.args.i) (c.number_taken.ensures ∙ h.next_is) in
     record {
       value = gives _ _ _ h.taken f;
       after = m;

@@ -5,5 +5,5 @@ use Rattle.members.proofs.guard.may_move.Goals as goal
 
 pub returns : goal.returns
 returns c =
-    let h = looked c.args.k c.args.numbers.now c.args.i _ _ c.in-ok-before.ensures in
-    gives _ _ _ h.taken (c.guard-holds.ensures ∙ h.may_is)
+    let h = looked c.args.k c.args.numbers.now c.args.i _ _ c.in_ok-before.ensures in
+    gives _ _ _ h.taken (c.guard_holds.ensures ∙ h.may_is)

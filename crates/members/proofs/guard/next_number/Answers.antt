@@ -5,5 +5,5 @@ use Rattle.members.proofs.guard.next_number.Goals as goal
 
 pub returns : goal.returns
 returns c =
-    let h = looked c.args.k c.args.numbers.now c.args.i _ _ c.in-ok-before.ensures in
-    gives _ _ _ h.taken (c.number-taken.ensures ∙ h.next_is)
+    let h = looked c.args.k c.args.numbers.now c.args.i _ _ c.in_ok-before.ensures in
+    gives _ _ _ h.taken (c.number_taken.ensures ∙ h.next_is)

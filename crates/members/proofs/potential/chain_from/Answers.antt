@@ -1,5 +1,5 @@
 -- Each number that is found lengthens the chain by one.
-use Rattle.std.proofs.Common.{◌≡◌, ◌-◌, ◌<◌, ◌≤◌, length, drop, sym, refl, ap, ◌∙◌, subst, add-one, arith, length-drop}
+use Rattle.std.proofs.Common.{◌≡◌, ◌<◌, ◌≤◌, length, drop, sym, refl, ap, ◌∙◌, subst, add-one, arith, length-drop}
 use Rattle.members.specs.Potential.{ahead, chain}
 use Rattle.members.specs.Ring.{at, up}
 use Rattle.members.proofs.Chain.{chain_length}
@@ -11,8 +11,8 @@ pub loop-i-init : goal.loop-i-init
 unfolding ahead
 loop-i-init c = (sym (chain_end c.args.k _ c.args.numbers.now (length c.args.numbers.now) (omega arith)), refl, c.requires.1.0, c.requires.1.1)
 
-pub overflow-add-found : goal.overflow-add-found
-overflow-add-found c =
+pub overflow_add-found : goal.overflow_add-found
+overflow_add-found c =
     let s = c.args.numbers.now in
     let f = chain_length c.args.k (at s 0) (drop c.loop-i.i s) in
     let l : length (drop c.loop-i.i s) ≤ length s = simp length-drop (omega arith) in
@@ -23,8 +23,8 @@ unfolding ahead
 loop-i-preserved-then-numbers-i c =
     let s = c.args.numbers.now in (
       chain_found c.args.k (at s 0) s c.loop-i.i c.loop-i.found (omega arith) (omega arith) c.loop-i.invariant.0 (c.if-numbers-i.true ∙ c.loop-i.invariant.1),
-      c.one-up-wanted.ensures ∙ (ap (up c.args.k) c.loop-i.invariant.1 ∙ ap (ahead c.args.k (at s 0)) (sym (add-one c.loop-i.found))),
-      subst (λ n. n < c.args.k) (sym c.one-up-wanted.ensures) (up_below c.args.k c.loop-i.wanted (omega (arith, c.loop-i.invariant.2))),
+      c.one_up-wanted.ensures ∙ (ap (up c.args.k) c.loop-i.invariant.1 ∙ ap (ahead c.args.k (at s 0)) (sym (add-one c.loop-i.found))),
+      subst (λ n. n < c.args.k) (sym c.one_up-wanted.ensures) (up_below c.args.k c.loop-i.wanted (omega (arith, c.loop-i.invariant.2))),
       omega arith,
     )
 

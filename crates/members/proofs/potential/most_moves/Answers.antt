@@ -16,6 +16,6 @@ halved (suc n) = let h = even n in omega (arith, h.1)
 pub returns : goal.returns
 returns c =
     let m = c.args.members in
-    let e : c.from-m.result * c.saturating-sub.result ≡ m * pred m =
-    ap (λ x. c.from-m.result * x) c.saturating-sub.ensures ∙ (ap (λ x. x * (x - 1)) c.from-m.ensures ∙ ap (λ x. m * x) (sub-one m)) in
+    let e : c.from-m.result * c.saturating_sub.result ≡ m * pred m =
+    ap (λ x. c.from-m.result * x) c.saturating_sub.ensures ∙ (ap (λ x. x * (x - 1)) c.from-m.ensures ∙ ap (λ x. m * x) (sub-one m)) in
     record { value = omega (arith, halved m, ap (λ x. x / 2) e); promises = promises }

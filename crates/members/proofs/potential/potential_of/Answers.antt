@@ -20,33 +20,33 @@ measured k s start ch z l d e =
       potential_fits (ring_of k s) g.0 s g.1 (omega (arith, ring_wide k s z)),
     )
 
-pub chain-from-chained-requires : goal.chain-from-chained-requires
-chain-from-chained-requires c =
+pub chain_from-chained-requires : goal.chain_from-chained-requires
+chain_from-chained-requires c =
     let s = c.args.numbers.now in
-    let g = ring_good c.args.k s (accepted _ _ _ c.in-ok-check-ring.ensures).0 in
+    let g = ring_good c.args.k s (accepted _ _ _ c.in_ok-check_ring.ensures).0 in
     let l : 0 < length s = omega (arith, g.0.0) in
-    (l, (below_at c.args.k s 0 g.1.1 l, c.tail-start.ensures.within))
+    (l, (below_at c.args.k s 0 g.1.1 l, c.tail_start.ensures.within))
 
-pub overflow-mul-result : goal.overflow-mul-result
-overflow-mul-result c =
-    let z = (accepted _ _ _ c.in-ok-check-ring.ensures).0 in
-    let m = measured c.args.k c.args.numbers.now _ _ z c.ranges.k.fits c.tail-start.ensures.value c.chain-from-chained.ensures in
+pub overflow_mul-result : goal.overflow_mul-result
+overflow_mul-result c =
+    let z = (accepted _ _ _ c.in_ok-check_ring.ensures).0 in
+    let m = measured c.args.k c.args.numbers.now _ _ z c.ranges.k.fits c.tail_start.ensures.value c.chain_from-chained.ensures in
     omega (arith, m.0, m.1)
 
-pub overflow-add-result : goal.overflow-add-result
-overflow-add-result c =
-    let z = (accepted _ _ _ c.in-ok-check-ring.ensures).0 in
-    let m = measured c.args.k c.args.numbers.now _ _ z c.ranges.k.fits c.tail-start.ensures.value c.chain-from-chained.ensures in
+pub overflow_add-result : goal.overflow_add-result
+overflow_add-result c =
+    let z = (accepted _ _ _ c.in_ok-check_ring.ensures).0 in
+    let m = measured c.args.k c.args.numbers.now _ _ z c.ranges.k.fits c.tail_start.ensures.value c.chain_from-chained.ensures in
     omega (arith, m.0, m.1)
 
 pub returns : goal.returns
 returns c =
     let k = c.args.k in
     let s = c.args.numbers.now in
-    let z = (accepted _ _ _ c.in-ok-check-ring.ensures).0 in
+    let z = (accepted _ _ _ c.in_ok-check_ring.ensures).0 in
     let g = ring_good k s z in
-    let m = measured k s _ _ z c.ranges.k.fits c.tail-start.ensures.value c.chain-from-chained.ensures in
-    let e : length s * c.chain-from-chained.result + c.weights-of.result ≡ potential k s = omega (arith, m.0) in
+    let m = measured k s _ _ z c.ranges.k.fits c.tail_start.ensures.value c.chain_from-chained.ensures in
+    let e : length s * c.chain_from-chained.result + c.weights_of.result ≡ potential k s = omega (arith, m.0) in
     record {
       value = gives _ _ _ z e;
       bounds = subst (Bounds (ring_of k s) s) (sym e) (record { least = potential_least (ring_of k s) g.0 s g.1; most = potential_most (ring_of k s) g.0 s g.1 });

@@ -6,8 +6,8 @@ use Rattle.members.proofs.Walks.{weights_walk, weights_end, weights_fit}
 use Rattle.members.proofs.potential.weights_of.Goals as goal
 use Rattle.members.proofs.potential.weights_of.Goals.{then-numbers-i, else-numbers-i}
 
-pub overflow-add-sum : goal.overflow-add-sum
-overflow-add-sum c =
+pub overflow_add-sum : goal.overflow_add-sum
+overflow_add-sum c =
     let s = c.args.numbers.now in
     let l : length (drop 1 s) < 65536 = simp length-drop (omega (arith, c.requires.1)) in
     omega (arith, weights_fit (at s 0) (drop 1 s) l, c.loop-i.invariant, c.requires.1)

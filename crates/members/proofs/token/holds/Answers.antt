@@ -6,4 +6,4 @@ use Rattle.members.proofs.token.holds.Goals as goal
 
 pub returns : goal.returns
 returns c = λ k.
-    c.guard-holds.ensures ∙ (ap (λ b. may_by c.args.i b (get_or c.args.numbers.now c.args.i 0)) c.number-before.ensures ∙ may_by_lem k c.args.numbers.now c.args.i)
+    c.guard_holds.ensures ∙ (ap (λ b. may_by c.args.i b (get_or c.args.numbers.now c.args.i 0)) c.number_before.ensures ∙ may_by_lem k c.args.numbers.now c.args.i)

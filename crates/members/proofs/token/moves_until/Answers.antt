@@ -7,20 +7,20 @@ use Rattle.members.proofs.Runs.{turn_after}
 use Rattle.members.proofs.States.{alone_healed, counted_two}
 use Rattle.members.proofs.token.moves_until.Goals as goal
 
-pub turns-between-requires : goal.turns-between-requires
-turns-between-requires c = ((c.in-One.ensures c.args.k).there, omega arith)
+pub turns_between-requires : goal.turns_between-requires
+turns_between-requires c = ((c.in-One.ensures c.args.k).there, omega arith)
 
 pub returns-in-One : goal.returns-in-One
 returns-in-One c =
     let k = c.args.k in
     let s = c.args.numbers.now in
     let r = ring_of k s in
-    let z = (accepted _ _ _ c.in-ok-check-ring.ensures).0 in
+    let z = (accepted _ _ _ c.in_ok-check_ring.ensures).0 in
     let g = ring_good k s z in
     let a = c.in-One.ensures k in
     let i = c.args.i in (
       whole_taken k s i z (omega arith),
-      subst (λ n. TurnAfter r s n i) (sym c.turns-between.ensures)
+      subst (λ n. TurnAfter r s n i) (sym c.turns_between.ensures)
           (turn_after r g.0 s g.1 (alone_healed r s c.in-One.holder a) c.in-One.holder a.there a.may_move_now i (omega arith)),
     )
 
@@ -28,7 +28,7 @@ pub returns-in-Several : goal.returns-in-Several
 returns-in-Several c =
     let k = c.args.k in
     let s = c.args.numbers.now in
-    let z = (accepted _ _ _ c.in-ok-check-ring.ensures).0 in
+    let z = (accepted _ _ _ c.in_ok-check_ring.ensures).0 in
     let t = c.in-Several.ensures k in (
       whole_taken k s c.args.i z (omega arith),
       λ h.

@@ -8,6 +8,6 @@ pub returns : goal.returns
 returns c =
     let k = c.args.k in
     let s = c.args.numbers.now in
-    let z = (accepted _ _ _ c.in-ok-check-ring.ensures).0 in
+    let z = (accepted _ _ _ c.in_ok-check_ring.ensures).0 in
     let g = ring_good k s z in
-    (z, c.find-holders.ensures k, main (ring_of k s) g.0 s g.1)
+    (z, c.find_holders.ensures k, main (ring_of k s) g.0 s g.1)

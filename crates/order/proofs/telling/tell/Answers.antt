@@ -10,13 +10,13 @@ use Rattle.order.proofs.telling.tell.Goals as goal
 
 pub unreachable-requires : goal.unreachable-requires
 unreachable-requires c =
-    let e = c.in-default.ensures in
+    let e = c.in_default.ensures in
     let n = numbered_ring c.args.settings.now c.args.numbers.now c.requires in
     let z : ◌≡◌ {A = ℕ} 0 1 = cc in
     omega arith
 
-pub wait-of-requires : goal.wait-of-requires
-wait-of-requires c =
+pub wait_of-requires : goal.wait_of-requires
+wait_of-requires c =
     let s = c.args.numbers.now in
     let r = ring_of c.args.settings.now.k s in
     (c.requires, (alone_healed r s c.in-One.holder (subst (Tells r s) c.in-One.is c.in-Ok.ensures.1), c.loop-post-test.true))
@@ -26,13 +26,13 @@ loop-post-preserved c =
     let s = c.args.numbers.now in
     let r = ring_of c.args.settings.now.k s in
     let ws = vec_items c.loop-post.waits in
-    let w = c.wait-of.result in
-    let e : vec_items c.push.new.self ≡ ws ++ (w ∷ []) = c.in-ok-push.ensures.items in (
+    let w = c.wait_of.result in
+    let e : vec_items c.push.new.self ≡ ws ++ (w ∷ []) = c.in_ok-push.ensures.items in (
       ap length e ∙ (length_push ws w ∙ ap (λ n. n + 1) c.loop-post.invariant.0),
       λ p l. elim (cases_eq p c.loop-post.post) [
         | inl q ↦
             let g : get_or (vec_items c.push.new.self) p 0 ≡ w = ap (λ v. get_or v p 0) e ∙ get_or_push ws w 0 p (c.loop-post.invariant.0 ∙ sym q) in
-            subst (λ n. TurnAfter r s n (3 * p)) (sym g) (subst (λ n. TurnAfter r s w (3 * n)) (sym q) c.wait-of.ensures)
+            subst (λ n. TurnAfter r s n (3 * p)) (sym g) (subst (λ n. TurnAfter r s w (3 * n)) (sym q) c.wait_of.ensures)
         | inr d ↦
             let g : get_or (vec_items c.push.new.self) p 0 ≡ get_or ws p 0 = ap (λ v. get_or v p 0) e ∙ get_or_append_left ws (w ∷ []) 0 p (omega (arith, c.loop-post.invariant.0)) in
             subst (λ n. TurnAfter r s n (3 * p)) (sym g) (c.loop-post.invariant.1 p (omega arith))

@@ -14,7 +14,7 @@ returns-in-Err c =
     let o = c.args.settings.now in
     let p = c.args.post in
     let bs = c.args.bytes.now in
-    let f = c.read-frame.ensures.fault ∙ ap (λ i. first_fault (frame_checks o.posts o.k i bs)) c.place.ensures in
+    let f = c.read_frame.ensures.fault ∙ ap (λ i. first_fault (frame_checks o.posts o.k i bs)) c.place.ensures in
     refuses o p _ _ (frame_fault o p bs c.args.ending _ _ c.requires f c.in-Err.ensures.fault)
 
 pub returns : goal.returns
@@ -22,9 +22,9 @@ returns c =
     let o = c.args.settings.now in
     let p = c.args.post in
     let bs = c.args.bytes.now in
-    let f = c.read-frame.ensures.fault ∙ ap (λ i. first_fault (frame_checks o.posts o.k i bs)) c.place.ensures in
-    let q = was_read _ _ _ _ c.in-default.ensures.value in
+    let f = c.read_frame.ensures.fault ∙ ap (λ i. first_fault (frame_checks o.posts o.k i bs)) c.place.ensures in
+    let q = was_read _ _ _ _ c.in_default.ensures.value in
     let n = sym f ∙ ap result_err q in
     let s = c.step.ensures.value ∙ ap (λ g. hear_by g o bs p) n in
     ap (λ z. (z.0, Acted z.1)) s ∙
-    hears o p _ (frame_fault o p bs c.args.ending _ _ c.requires f c.in-default.ensures.fault) c.requires
+    hears o p _ (frame_fault o p bs c.args.ending _ _ c.requires f c.in_default.ensures.fault) c.requires

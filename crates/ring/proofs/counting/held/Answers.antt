@@ -5,7 +5,7 @@ use Rattle.members.specs.Answers.{may_by, before}
 use Rattle.members.specs.Ring.{State, at}
 use Rattle.members.proofs.Answered.{may_by_lem}
 use Rattle.ring.proofs.counting.held.Goals as goal
-use Rattle.ring.proofs.counting.held.Goals.{in-0, in-default}
+use Rattle.ring.proofs.counting.held.Goals.{in-0, in_default}
 
 one_or_none : (b : Bool) → bool_byte b ≡ cond b 1 0
 one_or_none true = refl
@@ -25,7 +25,7 @@ returns c = λ k.
     let i = c.args.i in
     let b : c.match-i.before ≡ at s (before s i) = elim c.match-i.branch [
       | in-0 w ↦ first s i _ w.in-0.is w.before-is
-      | in-default w ↦ other s i _ (λ e. omega arith) w.before-is
+      | in_default w ↦ other s i _ (λ e. omega arith) w.before-is
     ] in
-    c.from.ensures ∙ (one_or_none c.guard-holds.result ∙
-    ap (λ m. cond m 1 0) (c.guard-holds.ensures ∙ (ap (λ x. may_by i x (at s i)) b ∙ may_by_lem k s i)))
+    c.from.ensures ∙ (one_or_none c.guard_holds.result ∙
+    ap (λ m. cond m 1 0) (c.guard_holds.ensures ∙ (ap (λ x. may_by i x (at s i)) b ∙ may_by_lem k s i)))

@@ -13,6 +13,6 @@ returns c =
     let e = c.disturb.ensures.after in
     record {
       lines = refl;
-      numbers = e ∙ ap (set c.args.numbers.now (3 * c.args.i + 1)) c.number-on.ensures;
+      numbers = e ∙ ap (set c.args.numbers.now (3 * c.args.i + 1)) c.number_on.ensures;
       tally = c.disturb.ensures.value o.k ∙ anew_ap (ring_same o c.args.numbers.now c.requires.1.0) (sym e);
     }

@@ -12,10 +12,10 @@ pub disturb-requires-2 : goal.disturb-requires-2
 disturb-requires-2 c =
     let s = c.args.numbers.now in
     let a = c.disturb.ensures.after in
-    let v = c.in-range.result in
+    let v = c.in_range.result in
     let n = length-set s (3 * c.args.i) v in (
       subst (λ t. Countable t c.disturb.new.self.holders) (sym a) (anew_kept s (3 * c.args.i) v c.disturb.new.self c.requires.0.big c.disturb.ensures.value),
-      omega (arith, ap length a, n, c.requires.1.0, c.post-before-before.ensures.below),
+      omega (arith, ap length a, n, c.requires.1.0, c.post_before-before.ensures.below),
     )
 
 pub returns : goal.returns
@@ -24,9 +24,9 @@ returns c =
     let s = c.args.numbers.now in
     let a = c.disturb.ensures.after in
     let e = c.disturb-2.ensures.after in
-    let n : length c.disturb.new.numbers ≡ 3 * o.posts = ap length a ∙ (length-set s (3 * c.args.i) c.in-range.result ∙ c.requires.1.0) in
+    let n : length c.disturb.new.numbers ≡ 3 * o.posts = ap length a ∙ (length-set s (3 * c.args.i) c.in_range.result ∙ c.requires.1.0) in
     record {
       posts = refl;
-      numbers = e ∙ cc (a, c.in-range.ensures, c.in-range-2.ensures, c.post-before-before.ensures.value);
+      numbers = e ∙ cc (a, c.in_range.ensures, c.in_range-2.ensures, c.post_before-before.ensures.value);
       tally = c.disturb-2.ensures.value o.k ∙ anew_ap (ring_same o c.disturb.new.numbers n) (sym e);
     }

@@ -18,7 +18,7 @@ returns-then-line c =
     let m : Machine = record { posts = c.args.posts.now; lines = c.args.lines.now } in
     let h = c.requires.0 in
     let i = c.args.i in
-    let b = subst (λ p. (line_at m p).lost ≡ true) c.post-before-before.ensures.value c.if-line.true in
+    let b = subst (λ p. (line_at m p).lost ≡ true) c.post_before-before.ensures.value c.if-line.true in
     let e : hear_of o i m ≡ m = same_after_lost o m h.whole i c.requires.1.0 b in
     record {
       posts = sym (ap (λ (x : Machine). x.posts) e);
@@ -33,7 +33,7 @@ note-requires c =
     let s = c.args.numbers.now in
     let y = c.args.tally.now in
     let h = c.requires.0 in
-    (kept_numbers o m s y h, (omega (arith, kept_length o m s y h, c.post-before-before.ensures.below), c.requires.1.1))
+    (kept_numbers o m s y h, (omega (arith, kept_length o m s y h, c.post_before-before.ensures.below), c.requires.1.1))
 
 pub returns-in-Some : goal.returns-in-Some
 returns-in-Some c =
@@ -41,7 +41,7 @@ returns-in-Some c =
     let m : Machine = record { posts = c.args.posts.now; lines = c.args.lines.now } in
     let h = c.requires.0 in
     let i = c.args.i in
-    let q = c.post-before-before.ensures.value in
+    let q = c.post_before-before.ensures.value in
     let b = subst (λ p. (line_at m p).lost ≡ false) q c.if-line.false in
     let v = c.hear.ensures.value ∙ ap (λ p. hear_step o (line_at m p).frame (post_at m i)) q in
     let e : hear_of o i m ≡ m = same_after_refused o m h.whole i c.requires.1.0 c.in-Some.field-0 (sym (ap (λ z. z.1.refuses) v) ∙ c.in-Some.is) in
@@ -60,7 +60,7 @@ returns-in-None c =
     let h = c.requires.0 in
     let i = c.args.i in
     let x = c.hear.result.0.memory.heard in
-    let q = c.post-before-before.ensures.value in
+    let q = c.post_before-before.ensures.value in
     let b = subst (λ p. (line_at m p).lost ≡ false) q c.if-line.false in
     let v = c.hear.ensures.value ∙ ap (λ p. hear_step o (line_at m p).frame (post_at m i)) q in
     let a = sym (ap (λ z. z.1.refuses) v) ∙ c.in-None.is in

@@ -37,14 +37,14 @@ left o i x {ps = ps} {ls = ls} {s = s} {y = y} e h t =
 disturbable : (o : Settings) (m : Machine) (s : State) (y : Tally) → Sound o m y → s ≡ state_in o m → Countable s y.holders × (length s ≡ 3 * o.posts)
 disturbable o m s y h e = let k = sound_kept o m s y h e in (kept_numbers o m s y k, kept_length o m s y k)
 
-pub disturb-memory-requires : goal.disturb-memory-requires
-disturb-memory-requires c =
+pub disturb_memory-requires : goal.disturb_memory-requires
+disturb_memory-requires c =
     let x = stage c.args.posts.now c.args.lines.now c.args.tally.now in
     let d = disturbable c.args.settings.now x.machine c.args.numbers.now x.tally c.requires.0 c.requires.1.0 in
     (d.0, (d.1, (c.requires.0.whole.count_of_posts, c.requires.1.1.0)))
 
-pub disturb-frame-requires : goal.disturb-frame-requires
-disturb-frame-requires c =
+pub disturb_frame-requires : goal.disturb_frame-requires
+disturb_frame-requires c =
     let x = stage c.args.posts.now c.args.lines.now c.args.tally.now in
     let d = disturbable c.args.settings.now x.machine c.args.numbers.now x.tally c.requires.0 c.requires.1.0 in
     (d.0, (d.1, (c.requires.0.whole.line_count, c.requires.1.1.0)))
@@ -53,7 +53,7 @@ pub returns-in-Tick : goal.returns-in-Tick
 unfolding obeyed step
 returns-in-Tick c =
     let x = stage c.args.posts.now c.args.lines.now c.args.tally.now in
-    let e = c.play-tick.ensures in
+    let e = c.play_tick.ensures in
     let p = left c.args.settings.now c.args.i x c.in-Tick.is (record { posts = e.posts; lines = e.lines; numbers = e.numbers }) e.tally in
     record { holds = p.0; tally = p.1 }
 
@@ -62,7 +62,7 @@ unfolding obeyed step
 returns-in-Hear c =
     let o = c.args.settings.now in
     let x = stage c.args.posts.now c.args.lines.now c.args.tally.now in
-    let e = c.play-hear.ensures in
+    let e = c.play_hear.ensures in
     let p = left o c.args.i x c.in-Hear.is (record { posts = e.posts; lines = hear_lines o x.machine c.args.i; numbers = e.numbers }) e.tally in
     record { holds = p.0; tally = p.1 }
 
@@ -82,9 +82,9 @@ returns-in-Memory c =
     let i = c.args.i in
     let x = stage c.args.posts.now c.args.lines.now c.args.tally.now in
     let m = x.machine in
-    let v = c.from-bytes-memory.result in
-    let b = memory_back v c.in-Memory.bytes c.from-bytes-memory.ensures.value in
-    let e = c.disturb-memory.ensures in
+    let v = c.from_bytes-memory.result in
+    let b = memory_back v c.in-Memory.bytes c.from_bytes-memory.ensures.value in
+    let e = c.disturb_memory.ensures in
     let n = e.numbers ∙ (ap (memory_numbers o.posts o.k i v) c.requires.1.0 ∙ (sym (memory_state o m c.requires.0.whole i c.requires.1.1.0 v) ∙ ap (λ z. state_in o (memory_becomes i z m)) b)) in
     let p = left o i x c.in-Memory.is (record { posts = e.posts ∙ ap (λ z. set m.posts i (with_memory z (post_at m i))) b; lines = refl; numbers = n }) (e.tally ∙ anew_ap refl n) in
     record { holds = p.0; tally = p.1 }
@@ -95,7 +95,7 @@ returns-in-Frame c =
     let o = c.args.settings.now in
     let i = c.args.i in
     let x = stage c.args.posts.now c.args.lines.now c.args.tally.now in
-    let e = c.disturb-frame.ensures in
+    let e = c.disturb_frame.ensures in
     let n = e.numbers ∙ (ap (frame_numbers o.k i c.in-Frame.frame) c.requires.1.0 ∙ sym (frame_state o x.machine c.requires.0.whole i c.requires.1.1.0 c.in-Frame.frame)) in
     let p = left o i x c.in-Frame.is (record { posts = refl; lines = e.lines; numbers = n }) (e.tally ∙ anew_ap refl n) in
     record { holds = p.0; tally = p.1 }

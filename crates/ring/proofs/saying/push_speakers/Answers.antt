@@ -15,7 +15,7 @@ loop-post-preserved c =
     let o = c.args.settings.now in
     let f : Post → Bool = λ p. (deeds_in o p).speaks in
     let i = c.loop-post.post-index in
-    c.in-ok-push.ensures.items ∙
+    c.in_ok-push.ensures.items ∙
     (ap (λ b. vec_items c.loop-post.speakers ++ b ∷ []) (ap (λ d. d.speaks) c.deeds.ensures) ∙
     (ap (λ a. a ++ f (get_or c.args.posts.now i nobody) ∷ []) c.loop-post.invariant ∙
     one_more f c.args.posts.now i nobody (vec_items c.args.speakers.now) c.loop-post-test.true))

@@ -10,8 +10,8 @@ loop-j-preserved c =
     let s = c.loop-j.numbers in
     let j = c.loop-j.j in
     below_more _ _
-    (λ k h. let ne : k ≢ j = omega arith in get_or-set_other s j k c.member-number.result 0 ne ∙ c.loop-j.invariant k h)
-    (get_or-set_same s j c.member-number.result 0 (omega arith) ∙ c.member-number.ensures)
+    (λ k h. let ne : k ≢ j = omega arith in get_or-set_other s j k c.member_number.result 0 ne ∙ c.loop-j.invariant k h)
+    (get_or-set_same s j c.member_number.result 0 (omega arith) ∙ c.member_number.ensures)
 
 pub returns : goal.returns
 returns c =

@@ -10,7 +10,7 @@ pub loop-byte-preserved : goal.loop-byte-preserved
 loop-byte-preserved c =
     let bs = c.args.bytes.now in
     let i = c.loop-byte.byte-index in
-    c.add-byte-register.ensures ∙ ap (λ r. remainder r (bits_down 8 (get_or bs i 0))) c.loop-byte.invariant
+    c.add_byte-register.ensures ∙ ap (λ r. remainder r (bits_down 8 (get_or bs i 0))) c.loop-byte.invariant
     ∙ sym (bytes_more 65535 bs i c.loop-byte-test.true)
 
 pub returns : goal.returns

@@ -6,5 +6,5 @@ use Rattle.lines.proofs.line.Ending.settle.Goals as goal
 
 pub returns : goal.returns
 returns g c =
-    let is = c.or-damage.ensures in
+    let is = c.or_damage.ensures in
     record { value = is; fault = λ bs fs h e. ap result_err is ∙ settled_fault c.args.self c.args.answer bs fs h e }

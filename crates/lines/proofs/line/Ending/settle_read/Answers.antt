@@ -6,5 +6,5 @@ use Rattle.lines.proofs.line.Ending.settle_read.Goals as goal
 
 pub returns : goal.returns
 returns g c =
-    let is = c.or-damage.ensures in
+    let is = c.or_damage.ensures in
     record { value = is; fault = λ bs fs h m e. ap refusal is ∙ settled_refusal c.args.self c.args.answer bs fs h m e }

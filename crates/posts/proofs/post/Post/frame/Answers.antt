@@ -7,6 +7,6 @@ use Rattle.posts.proofs.post.Post.frame.Goals as goal
 
 pub returns : goal.returns
 returns c =
-    let written : c.write-frame.result ≡ frame_of c.args.settings.now c.args.self =
-    c.write-frame.ensures ∙ ap (frame_bytes c.args.self.place) c.in-range.ensures in
+    let written : c.write_frame.result ≡ frame_of c.args.settings.now c.args.self =
+    c.write_frame.ensures ∙ ap (frame_bytes c.args.self.place) c.in_range.ensures in
     record { value = written; reaches = frame_reaches c.args.settings.now c.args.self _ written }

@@ -9,6 +9,6 @@ returns-in-Ok c =
     let s = c.args.settings.now in
     let p = c.args.self in
     let read = c.in-Ok.ensures in
-    let set : c.unwrap-or-ticks.result ≡ turn_set s p.place = c.unwrap-or-ticks.ensures ∙ ap (λ o. unwrap_or o 0) c.turn.ensures in
+    let set : c.unwrap_or-ticks.result ≡ turn_set s p.place = c.unwrap_or-ticks.ensures ∙ ap (λ o. unwrap_or o 0) c.turn.ensures in
     let h = heard_frame s c.args.bytes.now p _ _ _ _ _ _ read.fault read.value.0 read.value.1 set c.hear-memory.ensures c.nothing.ensures in
     record { value = h.value; refreshed = h.refreshed; again = h.again }

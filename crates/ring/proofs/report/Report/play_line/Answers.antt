@@ -12,14 +12,14 @@ use Rattle.ring.proofs.PlayLaws.{whichever, always_made, holds_sound, fault_foun
 use Rattle.ring.proofs.SayLaws.{adds_none}
 use Rattle.ring.proofs.report.Report.play_line.Goals as goal
 
-pub returns-then-is-blank : goal.returns-then-is-blank
-returns-then-is-blank c =
+pub returns-then-is_blank : goal.returns-then-is_blank
+returns-then-is_blank c =
     let o = c.args.settings.now in
     let k : Line = record { bytes = c.args.bytes.now; ending = c.args.ending } in
     let m : Machine = record { posts = c.args.posts.now; lines = c.args.lines.now } in
     let x : Stage = record { machine = m; tally = c.args.self.now.tally } in
     let n = c.args.line in
-    let b = sym c.is-blank.ensures ∙ c.if-is-blank.true in
+    let b = sym c.is_blank.ensures ∙ c.if-is_blank.true in
     let e = blank_stage o k x n b in
     record {
       holds = subst (λ z. Holds o z.machine m.posts m.lines c.args.numbers.now) (sym e) (record { posts = refl; lines = refl; numbers = c.requires.1.0 });
@@ -36,8 +36,8 @@ returns-in-Err c =
     let m : Machine = record { posts = c.args.posts.now; lines = c.args.lines.now } in
     let x : Stage = record { machine = m; tally = c.args.self.now.tally } in
     let n = c.args.line in
-    let b = sym c.is-blank.ensures ∙ c.if-is-blank.false in
-    let g = sym (ap result_err c.in-Err.is) ∙ fault_found o k c.read-order.result c.settle.result c.read-order.ensures.fault c.settle.ensures.fault in
+    let b = sym c.is_blank.ensures ∙ c.if-is_blank.false in
+    let g = sym (ap result_err c.in-Err.is) ∙ fault_found o k c.read_order.result c.settle.result c.read_order.ensures.fault c.settle.ensures.fault in
     let e = refused_stage o k x n b c.in-Err.fault g in
     let y = c.refuse.ensures.tally in
     record {
@@ -54,14 +54,14 @@ pub obey-requires : goal.obey-requires
 obey-requires c =
     let o = c.args.settings.now in
     let k : Line = record { bytes = c.args.bytes.now; ending = c.args.ending } in
-    let d = order_found o k c.read-order.result c.settle.result c.read-order.ensures.fault c.settle.ensures.fault c.settle.ensures.value c.read-order.ensures.value c.read-order.ensures.below c.in-Ok.command c.in-Ok.is in
+    let d = order_found o k c.read_order.result c.settle.result c.read_order.ensures.fault c.settle.ensures.fault c.settle.ensures.value c.read_order.ensures.value c.read_order.ensures.below c.in-Ok.command c.in-Ok.is in
     (c.requires.0, (c.requires.1.0, (subst (λ i. i < o.posts) (sym c.from-post.ensures) d.below, c.requires.1.1)))
 
 pub show-requires : goal.show-requires
 show-requires c =
     let o = c.args.settings.now in
     let k : Line = record { bytes = c.args.bytes.now; ending = c.args.ending } in
-    let d = order_found o k c.read-order.result c.settle.result c.read-order.ensures.fault c.settle.ensures.fault c.settle.ensures.value c.read-order.ensures.value c.read-order.ensures.below c.in-Ok.command c.in-Ok.is in
+    let d = order_found o k c.read_order.result c.settle.result c.read_order.ensures.fault c.settle.ensures.fault c.settle.ensures.value c.read_order.ensures.value c.read_order.ensures.below c.in-Ok.command c.in-Ok.is in
     subst (λ i. c.in-Ok.command.post < i) (sym c.requires.0.whole.count_of_posts) d.below
 
 -- what a show says, where the numbers are the machine's
@@ -77,8 +77,8 @@ returns-in-Show c =
     let m : Machine = record { posts = c.args.posts.now; lines = c.args.lines.now } in
     let x : Stage = record { machine = m; tally = c.args.self.now.tally } in
     let n = c.args.line in
-    let b = sym c.is-blank.ensures ∙ c.if-is-blank.false in
-    let d = order_found o k c.read-order.result c.settle.result c.read-order.ensures.fault c.settle.ensures.fault c.settle.ensures.value c.read-order.ensures.value c.read-order.ensures.below c.in-Ok.command c.in-Ok.is in
+    let b = sym c.is_blank.ensures ∙ c.if-is_blank.false in
+    let d = order_found o k c.read_order.result c.settle.result c.read_order.ensures.fault c.settle.ensures.fault c.settle.ensures.value c.read_order.ensures.value c.read_order.ensures.below c.in-Ok.command c.in-Ok.is in
     let e : line_stage o k x ≡ x = order_stage o k x n b c.in-Ok.command d.faultless d.written ∙ ap (λ z. obeyed o c.in-Ok.command.post z x) c.in-Show.is in
     let t : line_says o n k m ≡ show o c.in-Ok.command.post m ∷ [] = order_says o k x n b c.in-Ok.command d.faultless d.written ∙ ap (λ z. answered o c.in-Ok.command.post z m) c.in-Show.is in
     let y = c.show.ensures.tally in
@@ -92,19 +92,19 @@ returns-in-Show c =
       moves = always_made c.show.result (omega (arith, ap (λ (t : Tally). t.moves) y));
     }
 
-pub returns-in-default : goal.returns-in-default
-returns-in-default c =
+pub returns-in_default : goal.returns-in_default
+returns-in_default c =
     let o = c.args.settings.now in
     let k : Line = record { bytes = c.args.bytes.now; ending = c.args.ending } in
     let m : Machine = record { posts = c.args.posts.now; lines = c.args.lines.now } in
     let x : Stage = record { machine = m; tally = c.args.self.now.tally } in
     let n = c.args.line in
-    let b = sym c.is-blank.ensures ∙ c.if-is-blank.false in
-    let d = order_found o k c.read-order.result c.settle.result c.read-order.ensures.fault c.settle.ensures.fault c.settle.ensures.value c.read-order.ensures.value c.read-order.ensures.below c.in-Ok.command c.in-Ok.is in
+    let b = sym c.is_blank.ensures ∙ c.if-is_blank.false in
+    let d = order_found o k c.read_order.result c.settle.result c.read_order.ensures.fault c.settle.ensures.fault c.settle.ensures.value c.read_order.ensures.value c.read_order.ensures.below c.in-Ok.command c.in-Ok.is in
     let p = c.in-Ok.command.post in
     let e : line_stage o k x ≡ obeyed o c.from-post.result c.in-Ok.command.order x =
     order_stage o k x n b c.in-Ok.command d.faultless d.written ∙ ap (λ i. obeyed o i c.in-Ok.command.order x) (sym c.from-post.ensures) in
-    let t : line_says o n k m ≡ [] = order_says o k x n b c.in-Ok.command d.faultless d.written ∙ quiet_order o p c.in-Ok.command.order m c.in-default.not-Show in
+    let t : line_says o n k m ≡ [] = order_says o k x n b c.in-Ok.command d.faultless d.written ∙ quiet_order o p c.in-Ok.command.order m c.in_default.not-Show in
     let h = c.obey.ensures.holds in
     let y = c.obey.ensures.tally in
     let g = sound_obeyed o c.from-post.result c.in-Ok.command.order x c.requires.0 (subst (λ i. i < o.posts) (sym c.from-post.ensures) d.below) in

@@ -6,6 +6,6 @@ pub returns : goal.returns
 returns c =
     let r = c.args.self.now in
     record {
-      says = record { said = c.in-ok-push.ensures.items; numbers = sym (append-nil (vec_items r.numbers)); speakers = sym (append-nil (vec_items r.speakers)) };
+      says = record { said = c.in_ok-push.ensures.items; numbers = sym (append-nil (vec_items r.numbers)); speakers = sym (append-nil (vec_items r.speakers)) };
       tally = refl;
     }

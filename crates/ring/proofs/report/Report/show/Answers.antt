@@ -14,10 +14,10 @@ returns c =
     record {
       says = λ ls e.
           record {
-            said = c.in-ok-push.ensures.items ∙
+            said = c.in_ok-push.ensures.items ∙
                 ap (λ i. vec_items r.said ++ Shown p (get_or ps i nobody).memory.moves (get_or ps i nobody).memory.since ∷ []) c.from.ensures;
-            numbers = c.in-ok-extend-from-slice.ensures.items ∙ ap (λ s. vec_items r.numbers ++ s) (e ∙ sym (append-nil (state_in o (record { posts = ps; lines = ls }))));
-            speakers = c.in-ok-push-speakers.ensures ∙ ap (λ s. vec_items r.speakers ++ s) (sym (append-nil (speakers_in o (record { posts = ps; lines = ls }))));
+            numbers = c.in_ok-extend_from_slice.ensures.items ∙ ap (λ s. vec_items r.numbers ++ s) (e ∙ sym (append-nil (state_in o (record { posts = ps; lines = ls }))));
+            speakers = c.in_ok-push_speakers.ensures ∙ ap (λ s. vec_items r.speakers ++ s) (sym (append-nil (speakers_in o (record { posts = ps; lines = ls }))));
           };
       tally = refl;
     }

@@ -19,6 +19,6 @@ returns c =
     let s = c.args.numbers.now in
     record {
       after = c.shift-holders.ensures.after;
-      value = λ k. c.add-move.ensures ∙ (ap (λ h. one_more h c.args.self.now) (c.shift-holders.ensures.value k) ∙
+      value = λ k. c.add_move.ensures ∙ (ap (λ h. one_more h c.args.self.now) (c.shift-holders.ensures.value k) ∙
           sym (noted_other (ring_of k s) s c.args.j c.args.value c.args.self.now c.requires.1.0 c.if-numbers-j.false));
     }
