@@ -5,7 +5,7 @@ use Rattle.lines.specs.declared.read_error.ReadError.{ReadError}
 use Rattle.lines.specs.declared.read_error.ReadError.TheVariants.{Refused as ReadRefused, Memory as ReadMemory}
 use Rattle.lines.specs.Faults.{fault_text}
 use Rattle.inputs.specs.declared.input.Stop.{Stop}
-use Rattle.inputs.specs.declared.input.Stop.TheVariants.{Refused, Memory, Argument, Io}
+use Rattle.inputs.specs.declared.input.Stop.TheVariants.{Refused, Memory, Io}
 
 abbrev pub stop_for : ReadError → Stop
 stop_for (ReadRefused f) = Refused f
@@ -15,12 +15,10 @@ stop_for ReadMemory = Memory
 abbrev pub stop_text : Stop → Option (List ℕ)
 stop_text (Refused f) = Some (fault_text f)
 stop_text Memory = Some (codes "out of memory")
-stop_text Argument = Some (codes "unknown argument (--help says what it does)")
 stop_text (Io e) = None
 
 -- why reading stops, where so many bytes were read last: never for a fault, and for want of memory only with a line to take
 abbrev pub StopsAt : ℕ → Stop → Type 0
 StopsAt size (Refused f) = ⊥
 StopsAt size Memory = 0 < size
-StopsAt size Argument = ⊥
 StopsAt size (Io e) = Unit {0}

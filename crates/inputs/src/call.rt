@@ -3,13 +3,13 @@ use crate::Stop;
 use std::env;
 use std::rt::Env;
 
-// Whether a program is asked what it does. It takes no other argument.
+// Whether a program is asked what it does. Any other argument says nothing.
 fn asks_for_help<R: Env + Alloc>(rt: &R) -> Result<bool, Stop> {
     let mut asked = false;
     for argument in env::args(rt)?.skip(1) {
         match argument.as_str() {
             "--help" | "-h" => asked = true,
-            _ => return Err(Stop::Argument),
+            _ => {}
         }
     }
     Ok(asked)

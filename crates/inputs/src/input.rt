@@ -1,10 +1,11 @@
 // Units from the lines of an input, and why a program stops before its end. Assumes nothing.
-ghost use Rattle.std.specs.Prelude.{◌≡◌, IfOk, IfErr, vec_len};
+ghost use Rattle.std.specs.Prelude.{◌≡◌, false, IfSome, IfOk, IfErr, vec_len};
+ghost use Rattle.lines.specs.Hex.{is_blank};
 ghost use Rattle.inputs.specs.declared.input.Stop.TheVariants.{Refused as StopsFor, Memory as OutOfMemory, Io as StopsBy};
 ghost use Rattle.inputs.specs.Stops.{stop_for, stop_text, StopsAt};
 ghost use Rattle.inputs.specs.Taken.{one_more, GoesUp, Takes, Gives};
 
-use lines::{Ending, Fault, ReadError, read_line};
+use lines::{Ending, Fault, ReadError, read_first_line};
 use std::alloc::AllocError;
 use std::io::BufRead;
 use std::{fmt, io};
@@ -13,8 +14,6 @@ use std::{fmt, io};
 pub enum Stop {
     Refused(Fault),
     Memory,
-    // the program was called with something else than a question for help
-    Argument,
     Io(io::Error),
 }
 
@@ -25,7 +24,6 @@ impl fmt::Display for Stop {
         match self {
             Stop::Refused(fault) => write!(f, "{fault}"),
             Stop::Memory => write!(f, "out of memory"),
-            Stop::Argument => write!(f, "unknown argument (--help says what it does)"),
             Stop::Io(error) => write!(f, "{error}"),
         }
     }
@@ -76,7 +74,7 @@ fn take_line(
     ensures count { lines.new ≡ one_more lines.old }
 {
     *lines = lines.saturating_add(1);
-    let (ending, _) = read_line(text, bytes)?;
+    let (ending, _) = read_first_line(text, bytes)?;
     if ending.is_blank(bytes.as_slice()) {
         Ok(None)
     } else {
@@ -86,7 +84,7 @@ fn take_line(
 
 // Reads the next line that isn't passed over into `bytes`, and says how it ended; `None` at the end of the input. `lines` counts the lines that were read,
 // and `text` has what was read last.
-pub fn next_unit<R: BufRead>(
+pub fn next_unit_with<R: BufRead>(
     input: &mut R,
     text: &mut Vec<u8>,
     bytes: &mut Vec<u8>,
@@ -106,4 +104,16 @@ pub fn next_unit<R: BufRead>(
         }
     }
     Ok(None)
+}
+
+// As `next_unit_with`, with a buffer of its own for the text.
+pub fn next_unit<R: BufRead>(
+    input: &mut R,
+    bytes: &mut Vec<u8>,
+    lines: &mut u64,
+) -> Result<Option<Ending>, Stop>
+    ensures { IfOk result (λ o. IfSome o (λ e. is_blank record { bytes = bytes.exit.now.items; ending = e } ≡ false)) }
+{
+    let mut text = Vec::new(*bytes.allocator());
+    next_unit_with(input, &mut text, bytes, lines)
 }

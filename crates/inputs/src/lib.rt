@@ -5,4 +5,4 @@ mod call;
 mod input;
 
 pub use call::answer_help;
-pub use input::{Stop, next_unit};
+pub use input::{Stop, next_unit, next_unit_with};

@@ -4,11 +4,12 @@ use Rattle.std.specs.List.{flat_map, AllByRecursion as All}
 use Rattle.std.specs.Char.{digit_value as digitValue, digit_char}
 use Rattle.std.proofs.ByRecursion.{All-append}
 use Rattle.std.proofs.lemmas.List.{append_assoc, take-append-drop, take_more, flat_map_more}
-use Rattle.std.proofs.lemmas.Bool.{cond-true, cond-false, lt-ltb, ne_eqb}
+use Rattle.std.proofs.lemmas.Bool.{cond-true, lt-ltb}
 use Rattle.std.proofs.lemmas.Bool.Decides.{nat_tests}
 use Rattle.lines.specs.declared.line.Ending.TheVariants.{Whole}
 use Rattle.lines.specs.declared.line.Symbol.TheVariants.{Digit}
 use Rattle.lines.specs.Hex.{symbol_of, without_return, line_of, Spells, end, blank, byte, byte_text, hex_text}
+use Rattle.lines.proofs.ReturnLaws.{kept}
 use Rattle.lines.proofs.Reading.{rest_after_lem}
 use Rattle.lines.proofs.Spelling.{line_spelled}
 use Rattle.lines.proofs.UnitSteps.{rest_after}
@@ -63,8 +64,7 @@ all_large (b ∷ bs) h = All-append _ (byte_text b) (more_text bs) (byte_large b
 
 large_kept : (text : List ℕ) → All (λ c. 13 < c) text → without_return text ≡ text
 large_kept [] h = refl
-large_kept (c ∷ []) h = cond-false _ _ _ (ne_eqb c 13 (λ e. omega (arith, h.0)))
-large_kept (c ∷ d ∷ cs) h = ap (λ t. c ∷ t) (large_kept (d ∷ cs) h.1)
+large_kept (c ∷ cs) h = kept c cs (λ e. omega (arith, h.0)) ∙ ap (λ t. c ∷ t) (large_kept cs h.1)
 
 pub reads_back : (bs : List ℕ) → All (λ b. b < 256) bs → line_of (hex_text bs) ≡ record { bytes = bs; ending = Whole }
 reads_back bs h =

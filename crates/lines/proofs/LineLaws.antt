@@ -1,8 +1,8 @@
 -- Laws of lines of bytes. Assumes nothing.
-use Rattle.std.proofs.Common.{◌≡◌, ℕ, ◌<◌, Bool, true, false, cond, ◌||◌, eqb, ltb, List, [], ◌∷◌, ◌++◌, Some, None, Ok, Err, Option, Result, unwrap_or, sym, refl, ap, ◌∙◌, subst, arith}
+use Rattle.std.proofs.Common.{◌≡◌, ℕ, ◌+◌, ◌<◌, ◌≤◌, Bool, true, false, cond, ◌||◌, eqb, ltb, List, [], ◌∷◌, ◌++◌, length, get_or, drop, IfSome, Some, None, Ok, Err, Option, Result, unwrap_or, sym, refl, ap, ◌∙◌, subst, arith}
 use Rattle.std.specs.Result.{result_err}
 use Rattle.std.specs.Char.{digit_value}
-use Rattle.std.proofs.lemmas.List.{append-nil, append_assoc}
+use Rattle.std.proofs.lemmas.List.{append-nil, append_assoc, at_drop_more, at_drop_all}
 use Rattle.std.proofs.lemmas.Bool.{cond-true, ltb-true}
 use Rattle.lines.specs.declared.fault.Fault.{Fault}
 use Rattle.lines.specs.declared.fault.Fault.TheVariants.{Malformed}
@@ -14,7 +14,7 @@ use Rattle.lines.specs.declared.read_error.ReadError.{ReadError}
 use Rattle.lines.specs.declared.read_error.ReadError.TheVariants.{Refused, Memory}
 use Rattle.lines.specs.Checks.{first_fault}
 use Rattle.lines.specs.Units.{Field, Laid, unit_checks}
-use Rattle.lines.specs.Hex.{Line, is_whole, symbol_of, nothing, prepended, on_symbol, line_checks, settled}
+use Rattle.lines.specs.Hex.{Line, is_whole, symbol_of, nothing, prepended, on_symbol, reading, line_checks, settled}
 use Rattle.lines.specs.Refusals.{refusal}
 use Rattle.lines.proofs.Reading.{stray_first}
 
@@ -43,6 +43,15 @@ settled_refusal Damaged (Err Memory) bs fs h m e = absurd (m refl)
 pub record Remains (line : Line) (held : List ℕ) (left : Line) : Type 0 where
   pub bytes : held ++ left.bytes ≡ line.bytes
   pub ending : left.ending ≡ line.ending
+
+-- one character more
+pub one_character : (line : Line) (held cs : List ℕ) (i : ℕ) (pending p : Option ℕ) (s : Symbol) → i < length cs → pending ≡ p →
+    s ≡ symbol_of (get_or cs i 0) → Remains line held (reading (drop i cs) pending) →
+    Remains line held (on_symbol s p (reading (drop (i + 1) cs)))
+one_character line held cs i pending p s h same e r =
+    let rest : Option ℕ → Line = reading (drop (i + 1) cs) in
+    subst (Remains line held)
+    (at_drop_more (λ left. reading left pending) cs i 0 h ∙ ap (λ x. on_symbol x pending rest) (sym e) ∙ ap (λ o. on_symbol s o rest) same) r
 
 pub pushed_byte : (line : Line) (held : List ℕ) (b : ℕ) (left : Line) → Remains line held (prepended b left) → Remains line (held ++ b ∷ []) left
 pushed_byte line held b left r = record { bytes = append_assoc held (b ∷ []) left.bytes ∙ r.bytes; ending = r.ending }
@@ -76,6 +85,19 @@ no_digit c h = go (ltb (digit_value c) 16) refl
     go : (b : Bool) → ltb (digit_value c) 16 ≡ b → b ≡ false
     go true e = absurd (h (digit_value c) (cond-true _ _ _ e))
     go false e = refl
+
+-- at the end of the text
+pub all_read : (line : Line) (held cs : List ℕ) (i : ℕ) (pending p : Option ℕ) → length cs ≤ i → pending ≡ p →
+    Remains line held (reading (drop i cs) pending) → Remains line held (reading [] p)
+all_read line held cs i pending p h same r =
+    subst (Remains line held) (at_drop_all (λ left. reading left pending) cs i h ∙ ap (reading []) same) r
+
+-- what holds between two characters
+abbrev pub Between : Line → List ℕ → List ℕ → Option ℕ → Type 0
+Between line held cs pending = Remains line held (reading cs pending) × IfSome pending (λ high. high < 16)
+
+pub between_same : (line : Line) (held held' cs : List ℕ) (p p' : Option ℕ) → held' ≡ held → p' ≡ p → Between line held cs p → Between line held' cs p'
+between_same line held held' cs p p' e f b = subst (λ h. Between line h cs p') (sym e) (subst (Between line held cs) (sym f) b)
 
 -- a value of a line is the value that was read of its bytes
 pub was_read : {X E : Type 0} (f : E) (e : Ending) (answer : Result X E) (v : X) → Ok v ≡ settled f e answer → answer ≡ Ok v

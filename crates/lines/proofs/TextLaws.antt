@@ -8,6 +8,7 @@ use Rattle.lines.specs.declared.line.Symbol.{Symbol}
 use Rattle.lines.specs.declared.line.Symbol.TheVariants.{Digit, Blank, Comment, Stray}
 use Rattle.lines.specs.Hex.{symbol_of, nothing, prepended, on_symbol, reading, without_return, line_of, IsFirstLine}
 use Rattle.lines.specs.Text.{first_line, after_line, with_first, lines_of}
+use Rattle.lines.proofs.ReturnLaws.{return_more, kept}
 use Rattle.lines.proofs.LineLaws.{Remains, pushed_byte, done, cut_byte}
 use Rattle.lines.proofs.Reading.{rest_after_lem}
 use Rattle.lines.proofs.Spelling.{line_spelled}
@@ -65,11 +66,6 @@ after_shorter (c ∷ d ∷ cs) l = let h = after_shorter (d ∷ cs) (omega arith
     go true h = omega arith
     go false h = omega arith
 
--- a character that is no carriage return stays
-kept : (c : ℕ) (cs : List ℕ) → (c ≡ 13 → ⊥) → without_return (c ∷ cs) ≡ c ∷ without_return cs
-kept c [] h = cond-false _ _ _ (ne_eqb c 13 h)
-kept c (d ∷ cs) h = refl
-
 -- only a stray character can be a newline or a carriage return
 no_end : (c e : ℕ) → symbol_of e ≡ Stray → (symbol_of c ≡ Stray → ⊥) → c ≡ e → ⊥
 no_end c e s h same = h (ap symbol_of same ∙ s)
@@ -98,7 +94,7 @@ module _ (c high : ℕ) (digit : Digit high ≡ symbol_of c) where
       go : (b : Bool) → reading (cond b [] (d ∷ [])) (Some high) ≡ nothing Damaged
       go true = refl
       go false = cut_byte high (symbol_of d) (reading []) h
-  cut_line d (e ∷ cs) h = cut_byte high (symbol_of d) (reading (without_return (e ∷ cs))) h
+  cut_line d (e ∷ cs) h = ap (λ t. reading t (Some high)) (return_more d e cs) ∙ cut_byte high (symbol_of d) (reading (without_return (e ∷ cs))) h
 
   cut : (cs : List ℕ) → (1 < length (c ∷ cs) → (low : ℕ) → Digit low ≡ symbol_of (get_or (c ∷ cs) 1 0) → ⊥) → line_of (first_line (c ∷ cs)) ≡ nothing Damaged
   unfolding first_line
@@ -205,7 +201,7 @@ pub return_damages : (s : List ℕ) → 1 < length s → get_or s 0 0 ≡ 13 →
 unfolding first_line
 return_damages [] h e f = absurd (omega arith)
 return_damages (c ∷ []) h e f = absurd (omega arith)
-return_damages (c ∷ d ∷ cs) h e f = ap (λ x. line_of (first_line (x ∷ d ∷ cs))) e ∙ ap (λ t. line_of (13 ∷ t)) (line_more d cs f)
+return_damages (c ∷ d ∷ cs) h e f = ap (λ x. line_of (first_line (x ∷ d ∷ cs))) e ∙ ap (λ t. line_of (13 ∷ t)) (line_more d cs f) ∙ ap (λ t. reading t None) (return_more 13 d (first_line cs))
 
 pub stray_damages : (s : List ℕ) → 0 < length s → symbol_of (get_or s 0 0) ≡ Stray → (get_or s 0 0 ≡ 10 → ⊥) → (get_or s 0 0 ≡ 13 → ⊥) → line_of (first_line s) ≡ nothing Damaged
 stray_damages [] h e f g = absurd (omega arith)

@@ -1,5 +1,5 @@
 -- Bytes written as text: a line of them, two hexadecimal digits to a byte. Assumes nothing.
-use Rattle.std.specs.Prelude.{◌≡◌, ℕ, ◌+◌, ◌*◌, ◌/◌, ◌%◌, Bool, true, false, cond, ◌&&◌, ◌||◌, List, [], ◌∷◌, ◌++◌, length, Some, None, Ok, Err, Option, Result, ◌==◌, nat_le, nat_lt, slice_index}
+use Rattle.std.specs.Prelude.{◌≡◌, ℕ, ◌+◌, ◌-◌, ◌*◌, ◌/◌, ◌%◌, Bool, true, false, cond, ◌&&◌, ◌||◌, List, [], ◌∷◌, ◌++◌, length, take, Some, None, Ok, Err, Option, Result, ◌==◌, nat_le, nat_lt, slice_index}
 use Rattle.std.specs.List.{flat_map}
 use Rattle.std.specs.Char.{digit_value, digit_char}
 use Rattle.lines.specs.declared.line.Ending.{Ending}
@@ -44,9 +44,7 @@ reading (c ∷ cs) pending = on_symbol (symbol_of c) pending (reading cs)
 
 -- a carriage return as the very last character is a blank
 abbrev pub without_return : List ℕ → List ℕ
-without_return [] = []
-without_return (c ∷ []) = cond (c == 13) [] (c ∷ [])
-without_return (c ∷ d ∷ cs) = c ∷ without_return (d ∷ cs)
+without_return text = cond (slice_index text (length text - 1) == 13) (take (length text - 1) text) text
 
 abbrev pub line_of : List ℕ → Line
 line_of text = reading (without_return text) None

@@ -4,11 +4,13 @@
 mod fault;
 mod line;
 mod read_error;
+mod script;
 mod text;
 mod words;
 
 pub use fault::Fault;
-pub use line::{Ending, read_line, read_three};
+pub use line::{Ending, read_first_line, read_line, read_three};
 pub use read_error::ReadError;
+pub use script::first_line;
 pub use text::write_line;
 pub use words::read_words;

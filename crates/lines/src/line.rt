@@ -1,5 +1,5 @@
 // Lines of bytes in hexadecimal. Assumes nothing.
-ghost use Rattle.std.specs.Prelude.{◌≡◌, ℕ, ◌+◌, ◌*◌, ◌<◌, true, false, List, ◌++◌, length, drop, IfOk, MatchOption, OnErr, ◌≢◌, slice_index};
+ghost use Rattle.std.specs.Prelude.{◌≡◌, ℕ, ◌+◌, ◌*◌, ◌<◌, true, false, List, ◌++◌, length, drop, IfOk, MatchOption, OnErr, OnOk, ◌≢◌, slice_index};
 ghost use Rattle.std.specs.Result.{result_err};
 ghost use Rattle.std.specs.Char.{digit_value};
 ghost use Rattle.lines.specs.declared.fault.Fault.TheVariants.{Malformed};
@@ -7,7 +7,7 @@ ghost use Rattle.lines.specs.Checks.{first_fault};
 ghost use Rattle.lines.specs.Units.{Field, Laid, unit_checks};
 ghost use Rattle.lines.specs.declared.line.Ending.TheVariants.{Whole};
 ghost use Rattle.lines.specs.declared.line.Symbol.TheVariants.{Digit, Stray};
-ghost use Rattle.lines.specs.Hex.{symbol_of, nothing, line_of, is_blank, line_checks, settled, IsFirstLine, are_digits, is_three};
+ghost use Rattle.lines.specs.Hex.{symbol_of, nothing, line_of, is_blank, line_checks, settled, without_return, IsFirstLine, WholeBySpelling, are_digits, is_three};
 ghost use Rattle.lines.specs.Text.{first_line, after_line};
 
 use crate::Fault;
@@ -75,6 +75,50 @@ fn classify(c: u8) -> Symbol
     }
 }
 
+// The line without a carriage return as its very last character.
+fn without_return(text: &[u8]) -> &[u8]
+    ensures { result.now ≡ without_return text.now }
+{
+    if let [front @ .., b'\r'] = text {
+        front
+    } else {
+        text
+    }
+}
+
+// The bytes of a line, which is text without a newline at its end. Where memory fails, `bytes` has the first of them.
+pub fn read_line(text: &[u8], bytes: &mut Vec<u8>) -> Result<Ending, AllocError>
+    ensures ending { IfOk result (λ e. e ≡ (line_of text.now).ending) }
+    ensures bytes { OnOk result (bytes.new.items ≡ (line_of text.now).bytes) }
+    ensures whole { IfOk result (λ e. WholeBySpelling (without_return text.now) e bytes.new.items) }
+    ensures first { OnErr result ((rest : List ℕ) × (bytes.new.items ++ rest ≡ (line_of text.now).bytes)) }
+{
+    bytes.clear();
+    let mut high = None;
+    for c in without_return(text) {
+        let symbol = classify(*c);
+        match high {
+            Some(digit) => {
+                let Symbol::Digit(low) = symbol else {
+                    return Ok(Ending::Damaged);
+                };
+                bytes.push(16 * digit + low)?;
+                high = None;
+            }
+            None => match symbol {
+                Symbol::Digit(digit) => high = Some(digit),
+                Symbol::Blank => {}
+                Symbol::Comment => return Ok(Ending::Whole),
+                Symbol::Stray => return Ok(Ending::Damaged),
+            },
+        }
+    }
+    match high {
+        None => Ok(Ending::Whole),
+        Some(_) => Ok(Ending::Damaged),
+    }
+}
+
 // The hexadecimal digit at a place of a text, where there is one.
 fn digit_at(text: &[u8], i: usize) -> Option<u8>
     ensures { MatchOption result (i < length text.now → (d : ℕ) → Digit d ≢ symbol_of (slice_index text.now i)) (λ d. (i < length text.now) × (Digit d ≡ symbol_of (slice_index text.now i))) }
@@ -123,7 +167,10 @@ fn ending_at(text: &[u8]) -> Ending
 }
 
 // The bytes of the first line of a text, how it ended, and the text after it. Where memory fails, `bytes` has the first of them.
-pub fn read_line<'a>(text: &'a [u8], bytes: &mut Vec<u8>) -> Result<(Ending, &'a [u8]), AllocError>
+pub fn read_first_line<'a>(
+    text: &'a [u8],
+    bytes: &mut Vec<u8>,
+) -> Result<(Ending, &'a [u8]), AllocError>
     ensures line { IfOk result (λ p. IsFirstLine text.now bytes.new.items p.0 p.1.now) }
     ensures first { OnErr result ((rest : List ℕ) × (bytes.new.items ++ rest ≡ (line_of (first_line text.now)).bytes)) }
 {

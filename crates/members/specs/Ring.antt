@@ -19,6 +19,10 @@ all_below k (x ∷ xs) = nat_lt x k && all_below k xs
 abbrev pub IsState : Ring → State → Type 0
 IsState r s = (length s ≡ r.members) × T (all_below r.k s)
 
+-- at least three members, and at least as many numbers as members
+abbrev pub Good : Ring → Type 0
+Good r = (2 < r.members) × (r.members ≤ r.k)
+
 -- at least three members, and at most one number fewer than members: all that healing needs
 abbrev pub Enough : Ring → Type 0
 Enough r = (2 < r.members) × (r.members ≤ suc r.k)

@@ -23,7 +23,7 @@ fn wait_of(settings: &Settings, numbers: &[u16], post: u8) -> usize
 }
 
 // Tells who has the token in a ring with these settings and numbers, and when each post has its turn.
-pub(crate) fn tell(
+pub fn tell(
     heap: Global,
     settings: &Settings,
     numbers: &[u16],

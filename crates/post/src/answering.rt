@@ -52,7 +52,7 @@ fn obey(post: Post, settings: &Settings, ending: Ending, bytes: &[u8]) -> (Post,
 }
 
 // What the post does with a line of these bytes that ended so.
-pub(crate) fn reply(post: Post, settings: &Settings, ending: Ending, bytes: &[u8]) -> (Post, Reply)
+pub fn reply(post: Post, settings: &Settings, ending: Ending, bytes: &[u8]) -> (Post, Reply)
     ensures { result ≡ reply_to settings.now post record { bytes = bytes.entry.now; ending = ending } }
 {
     if first_byte(bytes) == 1 {

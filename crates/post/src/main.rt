@@ -9,7 +9,7 @@ use answering::reply;
 use commands::read_place;
 use frames::{Fault, read_settings, write_line};
 use help::HELP;
-use inputs::{Stop, answer_help, next_unit};
+use inputs::{Stop, answer_help, next_unit_with};
 use posts::{Act, Memory, Post};
 use reply::Reply;
 use std::io::BufReader;
@@ -49,13 +49,13 @@ fn run(rt: &HostRuntime) -> Result<(), Stop> {
     let mut lines = 0;
     let mut text = Vec::new(rt.alloc());
     let mut bytes = Vec::new(rt.alloc());
-    let ending = next_unit(&mut input, &mut text, &mut bytes, &mut lines)?.ok_or(Fault::Malformed)?;
+    let ending = next_unit_with(&mut input, &mut text, &mut bytes, &mut lines)?.ok_or(Fault::Malformed)?;
     let settings = ending.settle(read_settings(bytes.as_slice()))?;
-    let ending = next_unit(&mut input, &mut text, &mut bytes, &mut lines)?.ok_or(Fault::Malformed)?;
+    let ending = next_unit_with(&mut input, &mut text, &mut bytes, &mut lines)?.ok_or(Fault::Malformed)?;
     let place = ending.settle(read_place(bytes.as_slice(), &settings))?;
     let mut post = Post::new(place, Memory::from_bytes([0; 16]), &settings)?;
     for _ in 0..u64::MAX {
-        let Some(ending) = next_unit(&mut input, &mut text, &mut bytes, &mut lines)? else {
+        let Some(ending) = next_unit_with(&mut input, &mut text, &mut bytes, &mut lines)? else {
             break;
         };
         let (next, answer) = reply(post, &settings, ending, bytes.as_slice());

@@ -12,7 +12,7 @@ use crate::start::start;
 use crate::{Line, PlayError, Report};
 use commands::{Order, read_order};
 use frames::Settings;
-use lines::{Ending, read_line, read_three};
+use lines::{Ending, read_first_line, read_three};
 use posts::Post;
 use std::alloc::{AllocError, Global};
 
@@ -99,7 +99,7 @@ pub fn play(
         let three = read_three(rest);
         let (ending, after) = match three {
             Some(_) => (Ending::Whole, &rest[9..]),
-            None => read_line(rest, &mut bytes)?,
+            None => read_first_line(rest, &mut bytes)?,
         };
         let unit = unit_of(&three, &bytes);
         report.play_line(settings, posts, lines, numbers, unit, ending, line)?;

@@ -6,7 +6,7 @@ mod printing;
 
 use frames::{Fault, Settings, read_settings, write_frame};
 use help::HELP;
-use inputs::{Stop, answer_help, next_unit};
+use inputs::{Stop, answer_help, next_unit_with};
 use posts::{Memory, Post};
 use printing::Printer;
 use ring::{Line, PlayError, play};
@@ -58,7 +58,7 @@ fn run(rt: &HostRuntime) -> Result<(), Stop> {
     let mut text = Vec::new(heap);
     let mut bytes = Vec::new(heap);
     let mut before = 0;
-    let ending = next_unit(&mut input, &mut text, &mut bytes, &mut before)?.ok_or(
+    let ending = next_unit_with(&mut input, &mut text, &mut bytes, &mut before)?.ok_or(
         Fault::Malformed,
     )?;
     let settings = ending.settle(read_settings(bytes.as_slice()))?;

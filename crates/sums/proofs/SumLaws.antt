@@ -123,7 +123,7 @@ shifted_small r h = with_bit_small r 0 h (lit< tt)
 pub shifted_xor : (r s : ℕ) → r < 65536 → s < 65536 → shifted (bit_xor r s) ≡ bit_xor (shifted r) (shifted s)
 shifted_xor r s h k = with_bit_xor r s 0 0 h k (lit< tt) (lit< tt)
 
-shifted_low : (r : ℕ) → r < 32768 → shifted r ≡ 2 * r
+pub shifted_low : (r : ℕ) → r < 32768 → shifted r ≡ 2 * r
 shifted_low r h = shifted_is r ∙ reduced_low (2 * r) (omega arith)
 
 -- a bit can be put into the highest place before the shift

@@ -3,4 +3,4 @@
 
 mod sum;
 
-pub use sum::checksum;
+pub use sum::{checksum, shift};

@@ -1,9 +1,24 @@
 // The checksum of bytes. Assumes nothing.
 ghost use Rattle.std.specs.Prelude.{◌≡◌};
-ghost use Rattle.sums.specs.Sum.{bits_down, remainder, sum_of};
+ghost use Rattle.sums.specs.Sum.{with_bit, bits_down, remainder, sum_of};
 
 // What the checksum begins with.
 const BEGINNING: u16 = 0xffff;
+
+// The polynomial without x^16 and 1, which a rotation brings round by itself.
+const MIDDLE_TERMS: u16 = 0x1020;
+
+// The register after one bit more, which is 0.
+pub fn shift(register: u16) -> u16
+    ensures { result ≡ with_bit register 0 }
+{
+    let turned = register.rotate_left(1);
+    if turned & 1 == 0 {
+        turned
+    } else {
+        turned ^ MIDDLE_TERMS
+    }
+}
 
 // The register after the eight bits of a byte more: turned by a byte, where each bit that came round stands for x^12 + x^5 + 1.
 // Of those in the upper half of the byte x^12 comes round once more.

@@ -1,64 +1,81 @@
--- What `read_line` owes, byte by byte. Assumes nothing.
-use Rattle.std.proofs.Common.{◌≡◌, ◌+◌, ◌*◌, ◌++◌, vec_items, sym, ap, ◌∙◌, subst}
+-- What `read_line` owes, character by character. Assumes nothing.
+use Rattle.std.proofs.Common.{◌≡◌, ◌+◌, ◌*◌, ◌<◌, [], ◌∷◌, ◌++◌, length, get_or, drop, Some, None, vec_items, ap, ◌∙◌, subst, arith}
 use Rattle.std.proofs.lemmas.Result.{err_from_is_err_and}
+use Rattle.lines.specs.declared.line.Symbol.TheVariants.{Digit, Blank, Comment, Stray}
 use Rattle.lines.specs.declared.line.Ending.TheVariants.{Whole, Damaged}
-use Rattle.lines.specs.Hex.{line_of}
-use Rattle.lines.specs.Text.{first_line}
-use Rattle.lines.proofs.TextLaws.{Between, between_start, after_blank, after_byte, at_end, some_left, none_left, byte_cut, byte_more, blank_more, comment_ends, text_ends}
-use Rattle.lines.proofs.UnitSteps.{rest_after}
+use Rattle.lines.specs.Hex.{reading, line_of}
+use Rattle.lines.proofs.LineLaws.{Remains, one_character, pushed_byte, done, cut_byte, digit_small, all_read, between_same}
+use Rattle.lines.proofs.Spelling.{line_spelled}
 use Rattle.lines.proofs.line.read_line.Goals as goal
-
-pub read-init : goal.read-init
-read-init c = subst (λ held. Between c.args.text.now held c.args.text.now) (sym c.clear.ensures.items) (between_start c.args.text.now)
+use Rattle.lines.proofs.line.read_line.Goals.{in-Some+in-Digit+in_ok-push-in-Some, in-None+in-Digit-symbol, in-None+in-Blank}
 
 pub returns-in_default : goal.returns-in_default
 returns-in_default c =
-    let s = c.read.rest.now in
-    let l = some_left s (sym c.read-test.true ∙ c.is_empty.ensures) in
-    record {
-      line = at_end c.args.text.now (vec_items c.read.bytes) s c.read.invariant Damaged c.after_line.result.now (byte_cut s c.in-Digit.high l c.in-Digit.ensures c.in_default.ensures) c.after_line.ensures;
-      first = tt;
-    }
+    let line = line_of c.args.text.now in
+    let held = vec_items c.loop-c.bytes in
+    let cs = c.without_return-c-items.result.now in
+    let seen = one_character line held cs c.loop-c.c-index c.loop-c.high (Some c.in-Some.digit) c.classify-symbol.result (omega arith)
+    c.in-Some.is c.classify-symbol.ensures c.loop-c.invariant.0 in
+    let d = done line held Damaged
+    (subst (Remains line held) (cut_byte c.in-Some.digit c.classify-symbol.result (reading (drop (c.loop-c.c-index + 1) cs)) c.in_default.not-Digit) seen) in
+    record { ending = d.1; bytes = d.0; whole = line_spelled c.args.text.now _ _ d.0 d.1; first = tt }
 
-pub returns-in_err-push-in-Digit : goal.returns-in_err-push-in-Digit
-returns-in_err-push-in-Digit c =
+pub returns-in_err-push-in-Some : goal.returns-in_err-push-in-Some
+returns-in_err-push-in-Some c =
     let p = err_from_is_err_and c.from_residual.result c.from_residual.ensures.1 in
-    let left = line_of (first_line c.read.rest.now) in
-    let same : vec_items c.push.new.self ≡ vec_items c.read.bytes = c.in_err-push-in-Digit.ensures.items in
-    rw p.1 record { line = tt; first = (left.bytes, ap (λ bs. bs ++ left.bytes) same ∙ c.read.invariant.remains.bytes) }
-
-pub read-preserved-in-Digit : goal.read-preserved-in-Digit
-read-preserved-in-Digit c =
-    let s = c.read.rest.now in
-    let held = vec_items c.read.bytes in
-    let b = 16 * c.in-Digit.high + c.in-Some.low in
-    let f = byte_more s c.in-Digit.high c.in-Some.low c.in-Some.ensures.0 c.in-Digit.ensures c.in-Some.ensures.1 in
-    subst (λ h. Between c.args.text.now h (rest_after 2 s)) (sym c.in_ok-push-in-Digit.ensures.items) (after_byte c.args.text.now held s c.read.invariant (rest_after 2 s) b f)
-
-pub read-preserved : goal.read-preserved
-read-preserved c =
-    let s = c.read.rest.now in
-    let l = some_left s (sym c.read-test.true ∙ c.is_empty.ensures) in
-    after_blank c.args.text.now (vec_items c.read.bytes) s c.read.invariant (rest_after 1 s) (blank_more s l c.in-Blank.ensures)
+    let left = reading (drop c.loop-c.c-index c.without_return-c-items.result.now) c.loop-c.high in
+    let same : vec_items c.push.new.self ≡ vec_items c.loop-c.bytes = c.in_err-push-in-Some.ensures.items in
+    rw p.1 record { ending = tt; bytes = tt; whole = tt; first = (left.bytes, ap (λ bs. bs ++ left.bytes) same ∙ c.loop-c.invariant.0.bytes) }
 
 pub returns-in-Comment : goal.returns-in-Comment
 returns-in-Comment c =
-    let s = c.read.rest.now in
-    let l = some_left s (sym c.read-test.true ∙ c.is_empty.ensures) in
-    record {
-      line = at_end c.args.text.now (vec_items c.read.bytes) s c.read.invariant Whole c.after_line-in-Comment.result.now (comment_ends s l c.in-Comment.ensures) c.after_line-in-Comment.ensures;
-      first = tt;
-    }
+    let d = done _ _ Whole
+    (one_character _ _ c.without_return-c-items.result.now c.loop-c.c-index c.loop-c.high None Comment (omega arith) c.in-None.is
+    c.in-Comment.ensures c.loop-c.invariant.0) in
+    record { ending = d.1; bytes = d.0; whole = line_spelled c.args.text.now _ _ d.0 d.1; first = tt }
 
 pub returns-in-Stray : goal.returns-in-Stray
 returns-in-Stray c =
-    record {
-      line = at_end c.args.text.now (vec_items c.read.bytes) c.read.rest.now c.read.invariant c.ending_at.result c.after_line-in-Stray.result.now c.ending_at.ensures c.after_line-in-Stray.ensures;
-      first = tt;
-    }
+    let d = done _ _ Damaged
+    (one_character _ _ c.without_return-c-items.result.now c.loop-c.c-index c.loop-c.high None Stray (omega arith) c.in-None.is
+    c.in-Stray.ensures c.loop-c.invariant.0) in
+    record { ending = d.1; bytes = d.0; whole = line_spelled c.args.text.now _ _ d.0 d.1; first = tt }
 
-pub returns : goal.returns
-returns c =
-    let s = c.read.rest.now in
-    let e = text_ends s (none_left s (sym c.read-test.false ∙ c.is_empty.ensures)) in
-    record { line = at_end c.args.text.now (vec_items c.read.bytes) s c.read.invariant Whole s e.0 e.1; first = tt }
+pub loop-c-preserved : goal.loop-c-preserved
+loop-c-preserved c =
+    let line = line_of c.args.text.now in
+    let held = vec_items c.loop-c.bytes in
+    let cs = c.without_return-c-items.result.now in
+    let i = c.loop-c.c-index in
+    let within : i < length cs = omega arith in
+    elim c.match-high.branch [
+      | in-Some+in-Digit+in_ok-push-in-Some w ↦
+          let b = 16 * w.in-Some.digit + w.in-Digit.low in
+          let seen = one_character line held cs i c.loop-c.high (Some w.in-Some.digit) (Digit w.in-Digit.low) within w.in-Some.is
+          w.in-Digit.ensures c.loop-c.invariant.0 in
+          let after : vec_items w.push.new.self ≡ held ++ b ∷ [] = w.in_ok-push-in-Some.ensures.items in
+          between_same line (held ++ b ∷ []) _ (drop (i + 1) cs) None _ (ap vec_items w.bytes-is ∙ after) w.high-is
+          (pushed_byte line held b (reading (drop (i + 1) cs) None) seen, tt)
+      | in-None+in-Digit-symbol w ↦
+          let d = w.in-Digit-symbol.digit in
+          between_same line held _ (drop (i + 1) cs) (Some d) _ (ap vec_items w.bytes-is) w.high-is (
+            one_character line held cs i c.loop-c.high None (Digit d) within w.in-None.is w.in-Digit-symbol.ensures c.loop-c.invariant.0,
+            digit_small (get_or cs i 0) d w.in-Digit-symbol.ensures,
+          )
+      | in-None+in-Blank w ↦
+          between_same line held _ (drop (i + 1) cs) None _ (ap vec_items w.bytes-is) (w.high-is ∙ w.in-None.is)
+          (one_character line held cs i c.loop-c.high None Blank within w.in-None.is w.in-Blank.ensures c.loop-c.invariant.0, tt)
+    ]
+
+pub returns-in-None-high : goal.returns-in-None-high
+returns-in-None-high c =
+    let d = done _ _ Whole
+    (all_read _ _ c.without_return-c-items.result.now c.loop-c.c-index c.loop-c.high None (omega arith) c.in-None-high.is c.loop-c.invariant.0) in
+    record { ending = d.1; bytes = d.0; whole = line_spelled c.args.text.now _ _ d.0 d.1; first = tt }
+
+pub returns-in-Some-high : goal.returns-in-Some-high
+returns-in-Some-high c =
+    let d = done _ _ Damaged
+    (all_read _ _ c.without_return-c-items.result.now c.loop-c.c-index c.loop-c.high (Some c.in-Some-high.field-0) (omega arith) c.in-Some-high.is
+    c.loop-c.invariant.0) in
+    record { ending = d.1; bytes = d.0; whole = line_spelled c.args.text.now _ _ d.0 d.1; first = tt }

@@ -1,7 +1,7 @@
 -- What was read last is taken as it is; a count that goes up by one at each turn is at its largest value after the last.
 use Rattle.std.proofs.Common.{◌≡◌, ℕ, ◌+◌, ◌<◌, Some, vec_items, vec_len, subst, inl, inr, arith, rules}
 use Rattle.inputs.specs.Taken.{one_more, GoesUp, Takes}
-use Rattle.inputs.proofs.input.next_unit.Goals as goal
+use Rattle.inputs.proofs.input.next_unit_with.Goals as goal
 
 -- a count that went up by so many went up
 some : {b : ℕ} (a n : ℕ) → GoesUp (a + n) b → GoesUp a b
