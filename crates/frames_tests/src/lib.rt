@@ -1,3 +1,5 @@
+#![tactic(auto)]
+
 // Examples of lines, faults and units. Assumes nothing.
 #[cfg(test)]
 mod tests;

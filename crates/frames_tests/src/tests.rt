@@ -1,11 +1,13 @@
 // The rule of faults, the text of lines, settings and numbers on examples. Assumes nothing.
 use frames::*;
-use lines::read_three;
+use inputs::next_unit;
+use lines::{first_line, read_first_line, read_three};
 use std::alloc::AllocError;
+use std::io::BufReader;
 use std::test::Fail;
 
 // The number of a fault, or 0 where there is none.
-pub(crate) fn number_of<T: Drop>(answer: Result<T, Fault>) -> u8 {
+pub fn number_of<T: Drop>(answer: Result<T, Fault>) -> u8 {
     match answer {
         Ok(_) => 0,
         Err(fault) => fault.number(),
@@ -13,7 +15,7 @@ pub(crate) fn number_of<T: Drop>(answer: Result<T, Fault>) -> u8 {
 }
 
 fn settings_on(text: &[u8], bytes: &mut Vec<u8>) -> Result<Result<Settings, Fault>, AllocError> {
-    let (ending, _) = read_line(text, bytes)?;
+    let ending = read_line(text, bytes)?;
     Ok(ending.settle(read_settings(bytes)))
 }
 
@@ -82,8 +84,44 @@ fn settings_say_members_and_turns(rt: HostRuntime) -> Result<(), Fail> {
     Ok(())
 }
 
+// Lines, their bytes and how they end.
+const LINES: [(&[u8], &[u8], Ending); 18] = [
+    (b"", b"", Ending::Whole),
+    (b" \t ", b"", Ending::Whole),
+    (b"\r", b"", Ending::Whole),
+    (b"# 01 zz\r\r", b"", Ending::Whole),
+    (b"0aF0\t99 # x", b"\x0a\xf0\x99", Ending::Whole),
+    (b"01 \r", b"\x01", Ending::Whole),
+    (b"01\r", b"\x01", Ending::Whole),
+    (b"01\r 02", b"\x01", Ending::Damaged),
+    (b"01 \r\r", b"\x01", Ending::Damaged),
+    (b"0", b"", Ending::Damaged),
+    (b"0 1", b"", Ending::Damaged),
+    (b"01 2", b"\x01", Ending::Damaged),
+    (b"01 2\r", b"\x01", Ending::Damaged),
+    (b"01 2# x", b"\x01", Ending::Damaged),
+    (b"01 g2 03", b"\x01", Ending::Damaged),
+    (b"zz", b"", Ending::Damaged),
+    (b"01/02", b"\x01", Ending::Damaged),
+    (b"01\n", b"\x01", Ending::Damaged),
+];
+
+#[test]
+fn lines_are_read_to_the_first_stray_character(rt: HostRuntime) -> Result<(), Fail> {
+    let mut bytes = Vec::new(rt.alloc());
+    for (text, expected, ending) in LINES {
+        assert_eq!(rt; read_line(text, &mut bytes)?, ending);
+        assert_eq!(rt; bytes.as_slice(), expected);
+        assert_eq!(rt;
+            ending.is_blank(&bytes),
+            ending == Ending::Whole && expected.is_empty()
+        );
+    }
+    Ok(())
+}
+
 // Texts: the bytes of the first line, how it ends, and the text after it.
-const LINES: [(&[u8], &[u8], Ending, &[u8]); 24] = [
+const TEXTS: [(&[u8], &[u8], Ending, &[u8]); 24] = [
     (b"", b"", Ending::Whole, b""),
     (b" \t ", b"", Ending::Whole, b""),
     (b"\r", b"", Ending::Whole, b""),
@@ -111,10 +149,10 @@ const LINES: [(&[u8], &[u8], Ending, &[u8]); 24] = [
 ];
 
 #[test]
-fn lines_are_read_to_the_first_stray_character(rt: HostRuntime) -> Result<(), Fail> {
+fn first_lines_are_read_to_the_first_stray_character(rt: HostRuntime) -> Result<(), Fail> {
     let mut bytes = Vec::new(rt.alloc());
-    for (text, expected, ending, rest) in LINES {
-        let (read, after) = read_line(text, &mut bytes)?;
+    for (text, expected, ending, rest) in TEXTS {
+        let (read, after) = read_first_line(text, &mut bytes)?;
         assert_eq!(rt; read, ending);
         assert_eq!(rt; after, rest);
         assert_eq!(rt; bytes.as_slice(), expected);
@@ -123,6 +161,46 @@ fn lines_are_read_to_the_first_stray_character(rt: HostRuntime) -> Result<(), Fa
             ending == Ending::Whole && expected.is_empty()
         );
     }
+    Ok(())
+}
+
+// Texts, their first line, and the text after its newline.
+const PARTED: [(&[u8], &[u8], &[u8]); 5] = [
+    (b"01", b"01", b""),
+    (b"\n", b"", b""),
+    (b"01\n", b"01", b""),
+    (b"01 \r\n02", b"01 \r", b"02"),
+    (b"\n\n01", b"", b"\n01"),
+];
+
+#[test]
+fn a_text_is_parted_at_its_first_newline(rt: HostRuntime) {
+    for (text, line, rest) in PARTED {
+        assert!(rt; !text.is_empty());
+        let (front, after) = first_line(text);
+        assert_eq!(rt; front, line);
+        assert_eq!(rt; after, rest);
+    }
+}
+
+#[test]
+fn lines_that_hold_nothing_are_passed_over(rt: HostRuntime) -> Result<(), Fail> {
+    let mut input = BufReader::new(rt.alloc(), b"# first\n\r\n01 02\n \n03 zz".as_slice())?;
+    let mut bytes = Vec::new(rt.alloc());
+    let mut lines = 0;
+    assert_eq!(rt;
+        next_unit(&mut input, &mut bytes, &mut lines)?,
+        Some(Ending::Whole)
+    );
+    assert_eq!(rt; bytes.as_slice(), b"\x01\x02".as_slice());
+    assert_eq!(rt; lines, 3);
+    assert_eq!(rt;
+        next_unit(&mut input, &mut bytes, &mut lines)?,
+        Some(Ending::Damaged)
+    );
+    assert_eq!(rt; bytes.as_slice(), b"\x03".as_slice());
+    assert_eq!(rt; lines, 5);
+    assert_eq!(rt; next_unit(&mut input, &mut bytes, &mut lines)?, None);
     Ok(())
 }
 
@@ -182,7 +260,7 @@ fn numbers_are_refused_at_the_first_fault(rt: HostRuntime) -> Result<(), Fail> {
     let heap = rt.alloc();
     let settings = read_settings(&[2, 2, 0, 6, 0, 0, 0, 0])?;
     let numbers = read_numbers(heap, &[0, 0, 0, 1, 0, 2, 0, 3, 0, 4, 0, 5], &settings)?;
-    assert_eq!(rt; numbers.as_slice(), &[0, 1, 2, 3, 4, 5]);
+    assert_eq!(rt; numbers.as_slice(), [0, 1, 2, 3, 4, 5].as_slice());
     for (bytes, whole, damaged) in NUMBERS {
         assert_eq!(rt;
             refused(read_numbers(heap, bytes, &settings), Ending::Whole)?,

@@ -3,6 +3,7 @@ use crate::tests::number_of;
 use commands::*;
 use frames::*;
 use std::test::Fail;
+use sums::shift;
 
 // Two posts, and numbers below 6.
 const SETTINGS: [u8; 8] = [2, 2, 0, 6, 0, 0, 0, 0];
@@ -17,7 +18,25 @@ fn checksums_are_those_of_the_field(rt: HostRuntime) {
     for (bytes, sum) in cases {
         assert_eq!(rt; checksum(bytes), sum);
     }
-    assert_eq!(rt; write_frame(1, 5).as_slice(), b"\x01\x01\x00\x05\x95\xe1");
+    assert_eq!(rt;
+        write_frame(1, 5).as_slice(),
+        b"\x01\x01\x00\x05\x95\xe1".as_slice()
+    );
+}
+
+#[test]
+fn a_checksum_is_made_bit_by_bit(rt: HostRuntime) {
+    let texts: [&[u8]; 3] = [b"\x01\x00\x00\x00", b"123456789", b"\xff\x7f\x80\x01\xaa"];
+    for text in texts {
+        let mut register = 0xffff;
+        for byte in text {
+            register ^= u16::from_be_bytes([*byte, 0]);
+            for _ in 0..8 {
+                register = shift(register);
+            }
+        }
+        assert_eq!(rt; register, checksum(text));
+    }
 }
 
 // Frames on a line, the listener, and the number of the fault, or 0.
@@ -67,7 +86,7 @@ fn frames_are_refused_at_the_first_fault(rt: HostRuntime) -> Result<(), Fail> {
     let settings = read_settings(&SETTINGS)?;
     let mut bytes = Vec::new(rt.alloc());
     for (text, listener, fault) in FRAMES {
-        let (ending, _) = read_line(text, &mut bytes)?;
+        let ending = read_line(text, &mut bytes)?;
         let answer = ending.settle(read_frame(&bytes, &settings, listener));
         assert_eq!(rt; number_of(answer), fault);
     }
@@ -120,7 +139,7 @@ fn orders_are_refused_at_the_first_fault(rt: HostRuntime) -> Result<(), Fail> {
     let settings = read_settings(&SETTINGS)?;
     let mut bytes = Vec::new(rt.alloc());
     for (text, fault) in ORDERS {
-        let (ending, _) = read_line(text, &mut bytes)?;
+        let ending = read_line(text, &mut bytes)?;
         let answer = ending.settle(read_order(&bytes, &settings));
         assert_eq!(rt; number_of(answer), fault);
     }
