@@ -1,6 +1,6 @@
 -- What a reader of settings meets, field by field. Assumes nothing.
 use Rattle.std.proofs.Common.{◌≡◌, ℕ, suc, ◌+◌, ◌-◌, ◌*◌, ◌<◌, ◌≤◌, false, ◌&&◌, eqb, leb, List, [], ◌∷◌, ◌++◌, length, get_or, take, drop, Some, None, Option, sym, refl, ap, ◌∙◌, subst, arith}
-use Rattle.std.specs.List.{AllByRecursion as All}
+use Rattle.std.specs.List.{AllByRecursion}
 use Rattle.std.proofs.lemmas.List.{get_or-drop, get_or-take, length-drop, length-take-le, drop-drop}
 use Rattle.std.proofs.ByRecursion.{All-from_get_or}
 use Rattle.std.proofs.lemmas.Bool.{eq-eqb, ne_eqb, le-leb, lt-leb}
@@ -122,7 +122,7 @@ settings_accepted s long =
     let bs = settings_bytes s in
     let turns = take n s.turns in
     let count : length turns ≡ n = length-take-le n s.turns (omega arith) in
-    let short : All (λ t. t ≤ 1000) turns =
+    let short : AllByRecursion (λ t. t ≤ 1000) turns =
     All-from_get_or (λ t. t ≤ 1000) turns 0 (λ i h. subst (λ t. t ≤ 1000) (sym (get_or-take n s.turns i 0 (omega arith))) (s.short i)) in
     reads_turns bs n refl refl s.some few (omega arith) s.k (omega arith) s.enough
     ∙ ap (λ m. reading_fault (turn_fields m) (words_bytes turns)) (sym count) ∙ words_accepted OutOfRange 1000 turns short

@@ -1,6 +1,6 @@
 // The numbers of all members from bytes. Assumes nothing.
 ghost use Rattle.std.specs.Prelude.{◌≡◌, ◌*◌, ◌<◌, IfOk, vec_len};
-ghost use Rattle.std.specs.List.{AllByRecursion as All};
+ghost use Rattle.std.specs.List.{AllByRecursion};
 ghost use Rattle.lines.specs.Checks.{first_fault, IsFirstFault};
 ghost use Rattle.lines.specs.Words.{words_bytes};
 ghost use Rattle.lines.specs.Refusals.{refusal};
@@ -16,7 +16,7 @@ pub fn read_numbers(heap: Global, bytes: &[u8], settings: &Settings) -> Result<V
     ensures first { IsFirstFault (numbers_checks settings.now bytes.now) (refusal result) }
     ensures value { IfOk result (λ v. words_bytes v.items ≡ bytes.now) }
     ensures len { IfOk result (λ v. vec_len v ≡ 3 * settings.now.posts) }
-    ensures below { IfOk result (λ v. All (λ x. x < settings.now.k) v.items) }
+    ensures below { IfOk result (λ v. AllByRecursion (λ x. x < settings.now.k) v.items) }
 {
     let mut places = [0; 63];
     let numbers = &mut places[0..settings.members()];

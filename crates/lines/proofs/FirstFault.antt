@@ -2,7 +2,7 @@
 -- rising order it is that of the first broken check. Assumes nothing.
 use Rattle.std.proofs.Common.{◌≡◌, ℕ, suc, true, false, cond, eqb, List, [], ◌∷◌, ◌++◌, Some, None, Option, unwrap_or, sym, refl, ap, ◌∙◌, subst, inl, inr, arith}
 use Rattle.std.specs.Option.{option_map}
-use Rattle.std.specs.List.{ContainsAt as Has, AllByRecursion as All}
+use Rattle.std.specs.List.{ContainsAt, AllByRecursion}
 use Rattle.std.proofs.ByRecursion.{All-weaker, all-has, All-append, has_push, has_append_left}
 use Rattle.std.proofs.lemmas.Bool.{cases_Bool, both_ways, cond-true, cond-false}
 use Rattle.std.proofs.lemmas.Bool.Decides.{nat_tests}
@@ -19,9 +19,9 @@ head_broken (c ∷ cs) = cond c.broken (Some c) (head_broken cs)
 -- each check is followed by none that counts before it
 abbrev pub InOrder : List Check → Type 0
 InOrder [] = Unit {0}
-InOrder (c ∷ cs) = All (λ d. before d c ≡ false) cs × InOrder cs
+InOrder (c ∷ cs) = AllByRecursion (λ d. before d c ≡ false) cs × InOrder cs
 
-none_earlier : (c : Check) (cs : List Check) → All (λ d. before d c ≡ false) cs → earlier c (head_broken cs) ≡ c
+none_earlier : (c : Check) (cs : List Check) → AllByRecursion (λ d. before d c ≡ false) cs → earlier c (head_broken cs) ≡ c
 none_earlier c [] h = refl
 none_earlier c (d ∷ cs) h =
     let e = none_earlier c cs h.1 in
@@ -61,9 +61,9 @@ no_broken (c ∷ cs) e =
 
 -- c is the broken check that counts first
 Least : List Check → Check → Type 0
-Least cs c = Has cs c × (c.broken ≡ true) × All (λ d. d.broken ≡ true → before d c ≡ false) cs
+Least cs c = ContainsAt cs c × (c.broken ≡ true) × AllByRecursion (λ d. d.broken ≡ true → before d c ≡ false) cs
 
-has_more : (cs : List Check) (c d : Check) → Has cs c → Has (d ∷ cs) c
+has_more : (cs : List Check) (c d : Check) → ContainsAt cs c → ContainsAt (d ∷ cs) c
 has_more cs c d h = (suc h.0, omega (arith, h.1), λ e. h.2 e)
 
 least_at : (d : Check) (cs : List Check) (o : Option Check) → d.broken ≡ true → first_broken cs ≡ o →

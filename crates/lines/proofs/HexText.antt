@@ -1,7 +1,7 @@
 -- The text of bytes reads back as those bytes. Assumes nothing.
 use Rattle.std.proofs.Common.{◌≡◌, ℕ, ◌+◌, ◌*◌, ◌/◌, ◌%◌, ◌<◌, ◌≤◌, cond, List, [], ◌∷◌, ◌++◌, length, get_or, take, drop, is_ok, IfOk, IfErr, Ok, Err, Result, sym, refl, ap, ◌∙◌, subst, arith}
-use Rattle.std.specs.List.{flat_map, AllByRecursion as All}
-use Rattle.std.specs.Char.{digit_value as digitValue, digit_char}
+use Rattle.std.specs.List.{flat_map, AllByRecursion}
+use Rattle.std.specs.Char.{digit_value, digit_char}
 use Rattle.std.proofs.ByRecursion.{All-append}
 use Rattle.std.proofs.lemmas.List.{append_assoc, take-append-drop, take_more, flat_map_more}
 use Rattle.std.proofs.lemmas.Bool.{cond-true, lt-ltb}
@@ -14,8 +14,8 @@ use Rattle.lines.proofs.Reading.{rest_after_lem}
 use Rattle.lines.proofs.Spelling.{line_spelled}
 use Rattle.lines.proofs.UnitSteps.{rest_after}
 
-digit_value : (d : ℕ) → d < 16 → digitValue (digit_char d) ≡ d
-digit_value d h = grind (arith, nat_tests)
+digit_value-digit_char : (d : ℕ) → d < 16 → digit_value (digit_char d) ≡ d
+digit_value-digit_char d h = grind (arith, nat_tests)
 
 digit_low : (d : ℕ) → d < 16 → (48 ≤ digit_char d) × (digit_char d < 128)
 digit_low d h = (grind (arith, nat_tests), grind (arith, nat_tests))
@@ -26,8 +26,8 @@ digit_encoded encoded c d e h ascii = ascii (subst (λ x. x < 128) (sym e) (digi
 
 digit_symbol : (d : ℕ) → d < 16 → symbol_of (digit_char d) ≡ Digit d
 digit_symbol d h =
-    let v = digit_value d h in
-    cond-true _ _ _ (lt-ltb (digitValue (digit_char d)) 16 (subst (λ x. x < 16) (sym v) h)) ∙ ap Digit v
+    let v = digit_value-digit_char d h in
+    cond-true _ _ _ (lt-ltb (digit_value (digit_char d)) 16 (subst (λ x. x < 16) (sym v) h)) ∙ ap Digit v
 
 -- the text of bytes after the first
 abbrev pub more_text : List ℕ → List ℕ
@@ -39,34 +39,34 @@ spells_byte b text bs h s =
     subst (λ x. Spells (byte_text b ++ text) (x ∷ bs)) value
     (byte (digit_symbol (b / 16) (omega arith)) (digit_symbol (b % 16) (omega arith)) s)
 
-spells_more : (bs : List ℕ) → All (λ b. b < 256) bs → Spells (more_text bs) bs
+spells_more : (bs : List ℕ) → AllByRecursion (λ b. b < 256) bs → Spells (more_text bs) bs
 spells_more [] h = end
 spells_more (b ∷ bs) h = blank refl (spells_byte b (more_text bs) bs h.0 (spells_more bs h.1))
 
-spells_all : (bs : List ℕ) → All (λ b. b < 256) bs → Spells (hex_text bs) bs
+spells_all : (bs : List ℕ) → AllByRecursion (λ b. b < 256) bs → Spells (hex_text bs) bs
 spells_all [] h = end
 spells_all (b ∷ bs) h = spells_byte b (more_text bs) bs h.0 (spells_more bs h.1)
 
 -- no character of it is a carriage return
 
-byte_large : (b : ℕ) → b < 256 → All (λ c. 13 < c) (byte_text b)
+byte_large : (b : ℕ) → b < 256 → AllByRecursion (λ c. 13 < c) (byte_text b)
 byte_large b h =
     let high = digit_low (b / 16) (omega arith) in
     let low = digit_low (b % 16) (omega arith) in (omega arith, (omega arith, tt))
 
-more_large : (bs : List ℕ) → All (λ b. b < 256) bs → All (λ c. 13 < c) (more_text bs)
+more_large : (bs : List ℕ) → AllByRecursion (λ b. b < 256) bs → AllByRecursion (λ c. 13 < c) (more_text bs)
 more_large [] h = tt
 more_large (b ∷ bs) h = (omega arith, All-append _ (byte_text b) (more_text bs) (byte_large b h.0) (more_large bs h.1))
 
-all_large : (bs : List ℕ) → All (λ b. b < 256) bs → All (λ c. 13 < c) (hex_text bs)
+all_large : (bs : List ℕ) → AllByRecursion (λ b. b < 256) bs → AllByRecursion (λ c. 13 < c) (hex_text bs)
 all_large [] h = tt
 all_large (b ∷ bs) h = All-append _ (byte_text b) (more_text bs) (byte_large b h.0) (more_large bs h.1)
 
-large_kept : (text : List ℕ) → All (λ c. 13 < c) text → without_return text ≡ text
+large_kept : (text : List ℕ) → AllByRecursion (λ c. 13 < c) text → without_return text ≡ text
 large_kept [] h = refl
 large_kept (c ∷ cs) h = kept c cs (λ e. omega (arith, h.0)) ∙ ap (λ t. c ∷ t) (large_kept cs h.1)
 
-pub reads_back : (bs : List ℕ) → All (λ b. b < 256) bs → line_of (hex_text bs) ≡ record { bytes = bs; ending = Whole }
+pub reads_back : (bs : List ℕ) → AllByRecursion (λ b. b < 256) bs → line_of (hex_text bs) ≡ record { bytes = bs; ending = Whole }
 reads_back bs h =
     let text = hex_text bs in
     let kept = large_kept text (all_large bs h) in

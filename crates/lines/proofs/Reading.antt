@@ -2,7 +2,7 @@
 -- first fault where there is no other. Assumes nothing.
 use Rattle.std.proofs.Common.{◌≡◌, ℕ, ◌+◌, ◌-◌, ◌*◌, ◌<◌, ◌≤◌, Bool, true, false, cond, ltb, leb, ◌⊎◌, List, [], ◌∷◌, ◌++◌, length, get_or, take, drop, Some, Option, unwrap_or, sym, refl, ap, ◌∙◌, subst, inl, inr, arith}
 use Rattle.std.specs.Option.{option_map}
-use Rattle.std.specs.List.{AllByRecursion as All}
+use Rattle.std.specs.List.{AllByRecursion}
 use Rattle.std.proofs.ByRecursion.{All-weaker, All-append}
 use Rattle.std.proofs.lemmas.List.{length-drop, drop-drop, take_rest}
 use Rattle.std.proofs.lemmas.Bool.{cases_Bool, cond-true, cond-false, le-leb, le-ltb, lt-ltb, cases_lt}
@@ -27,16 +27,16 @@ number_of_pos NumberTooLarge = omega arith
 
 -- the checks of a unit stand in order
 
-in_order_append : (xs ys : List Check) → InOrder xs → InOrder ys → All (λ x. All (λ y. before y x ≡ false) ys) xs → InOrder (xs ++ ys)
+in_order_append : (xs ys : List Check) → InOrder xs → InOrder ys → AllByRecursion (λ x. AllByRecursion (λ y. before y x ≡ false) ys) xs → InOrder (xs ++ ys)
 in_order_append [] ys h k a = k
 in_order_append (x ∷ xs) ys h k a = (All-append _ xs ys h.0 a.0, in_order_append xs ys h.1 k a.1)
 
-rules_place : (bs : List ℕ) (p w : ℕ) (rs : List Rule) → All (λ c. c.place ≡ p) (rule_checks bs p w rs)
+rules_place : (bs : List ℕ) (p w : ℕ) (rs : List Rule) → AllByRecursion (λ c. c.place ≡ p) (rule_checks bs p w rs)
 rules_place bs p w [] = tt
 rules_place bs p w (r ∷ rs) = (refl, rules_place bs p w rs)
 
-rules_after : (bs : List ℕ) (p w : ℕ) (c : Check) (rs : List Rule) → c.place ≡ p → All (λ s. number_of c.fault ≤ number_of s.fault) rs →
-    All (λ d. before d c ≡ false) (rule_checks bs p w rs)
+rules_after : (bs : List ℕ) (p w : ℕ) (c : Check) (rs : List Rule) → c.place ≡ p → AllByRecursion (λ s. number_of c.fault ≤ number_of s.fault) rs →
+    AllByRecursion (λ d. before d c ≡ false) (rule_checks bs p w rs)
 rules_after bs p w c [] at h = tt
 rules_after bs p w c (r ∷ rs) at h = (let k = h.0 in grind (arith, nat_tests), rules_after bs p w c rs at h.1)
 
@@ -44,11 +44,11 @@ rules_in_order : (bs : List ℕ) (p w : ℕ) (rs : List Rule) → Rising rs → 
 rules_in_order bs p w [] h = tt
 rules_in_order bs p w (r ∷ rs) h = (rules_after bs p w (failing bs p w r) rs refl h.0, rules_in_order bs p w rs h.1)
 
-all_numbered : (rs : List Rule) → All (λ s. 1 ≤ number_of s.fault) rs
+all_numbered : (rs : List Rule) → AllByRecursion (λ s. 1 ≤ number_of s.fault) rs
 all_numbered [] = tt
 all_numbered (r ∷ rs) = (number_of_pos r.fault, all_numbered rs)
 
-fields_from : (bs : List ℕ) (p : ℕ) (fs : List Field) → All (λ c. p ≤ c.place) (field_checks bs p fs)
+fields_from : (bs : List ℕ) (p : ℕ) (fs : List Field) → AllByRecursion (λ c. p ≤ c.place) (field_checks bs p fs)
 fields_from bs p [] = (omega arith, tt)
 fields_from bs p (f ∷ fs) = (
   omega arith,
@@ -66,7 +66,7 @@ fields_in_order bs p (f ∷ fs) h =
     let wide = h.0.0 in
     let rules = rule_checks bs p f.width f.rules in
     let rest = field_checks bs (p + f.width) fs in
-    let later : (c : Check) → c.place ≡ p → All (λ d. before d c ≡ false) rest =
+    let later : (c : Check) → c.place ≡ p → AllByRecursion (λ d. before d c ≡ false) rest =
     λ c e. All-weaker _ _ (λ d k. after c d (omega arith)) rest (fields_from bs (p + f.width) fs) in (
       All-append _ rules rest (rules_after bs p f.width (missing bs p f.width) f.rules refl (all_numbered f.rules))
           (later (missing bs p f.width) refl),
@@ -164,7 +164,7 @@ head_append (x ∷ xs) ys c e =
       | inr b ↦ elim (head_append xs ys c (sym (cond-false _ _ _ b) ∙ e)) [ inl k ↦ inl (cond-false _ _ _ b ∙ k) | inr k ↦ inr k ]
     ]
 
-head_all : (P : Check → Type 0) (cs : List Check) (c : Check) → All P cs → head_broken cs ≡ Some c → P c
+head_all : (P : Check → Type 0) (cs : List Check) (c : Check) → AllByRecursion P cs → head_broken cs ≡ Some c → P c
 head_all P [] c h e = absurd (some_none c (sym e))
 head_all P (d ∷ cs) c h e =
     elim (cases_Bool d.broken) [

@@ -1,6 +1,6 @@
 -- Reading numbers of two bytes, one after the other. Assumes nothing.
 use Rattle.std.proofs.Common.{◌≡◌, ℕ, zero, suc, ◌+◌, ◌-◌, ◌*◌, ◌/◌, ◌%◌, ◌<◌, ◌≤◌, leb, List, [], ◌∷◌, ◌++◌, length, get_or, take, drop, set, replicate, Some, None, sym, refl, ap, ◌∙◌, subst, inl, inr, append_assoc, arith}
-use Rattle.std.specs.List.{AllByRecursion as All}
+use Rattle.std.specs.List.{AllByRecursion}
 use Rattle.std.proofs.ByRecursion.{All-push, All-get_or}
 use Rattle.std.proofs.lemmas.List.{take_more_set, take_rest, take_all, drop-drop, drop-set-lt, get_or-drop, length-set, flat_map_more, nil_from_length, append-nil, drop-replicate, get_or-replicate, get_or_past, length-replicate, get_or_append_left, get_or-append_right, length-take-le}
 use Rattle.std.proofs.lemmas.Bool.{le-leb, lt-leb, cases_lt}
@@ -25,7 +25,7 @@ word_back (a ∷ b ∷ bs) v h o e =
 pub record Progress (bytes old words rest : List ℕ) (i : ℕ) (f : Fault) (largest : ℕ) : Type 0 where
   pub so_far : words_bytes (take i words) ++ rest ≡ bytes
   pub untouched : drop i words ≡ drop i old
-  pub bounded : All (λ x. x ≤ largest) (take i words)
+  pub bounded : AllByRecursion (λ x. x ≤ largest) (take i words)
   pub same_fault :
       reading_fault (replicate (length words - i) (word_up_to f largest)) rest ≡ reading_fault (replicate (length words) (word_up_to f largest)) bytes
   pub octets : (j : ℕ) → get_or rest j 0 < 256
@@ -84,8 +84,8 @@ module _ {bytes old words rest : List ℕ} {i : ℕ} {f : Fault} {largest : ℕ}
         ap words_bytes (sym (take_all i words all)) ∙ sym (append-nil (words_bytes (take i words)))
         ∙ ap (λ bs. words_bytes (take i words) ++ bs) (sym (nil_from_length rest none)) ∙ at.so_far
 
-    pub all_bounded : All (λ x. x ≤ largest) words
-    all_bounded = subst (All (λ x. x ≤ largest)) (take_all i words all) at.bounded
+    pub all_bounded : AllByRecursion (λ x. x ≤ largest) words
+    all_bounded = subst (AllByRecursion (λ x. x ≤ largest)) (take_all i words all) at.bounded
 
 -- words and then zeros
 
@@ -101,7 +101,7 @@ module _ (ws zs : List ℕ) (n : ℕ) (long : length ws ≡ n) (zero-all : (i : 
   pub padded_past : (i : ℕ) → n ≤ i → get_or (ws ++ zs) i 0 ≡ 0
   padded_past i h = get_or-append_right ws zs n i 0 long h ∙ zero-all (i - n)
 
-  pub padded_bounded : (m : ℕ) → All (λ x. x ≤ m) ws → (i : ℕ) → get_or (ws ++ zs) i 0 ≤ m
+  pub padded_bounded : (m : ℕ) → AllByRecursion (λ x. x ≤ m) ws → (i : ℕ) → get_or (ws ++ zs) i 0 ≤ m
   padded_bounded m h i =
       elim (cases_lt i n) [
         | inl l ↦ let k : i < length ws = omega arith in rw (get_or_append_left ws zs 0 i k) (All-get_or (λ x. x ≤ m) ws i 0 k h)
@@ -118,7 +118,7 @@ words_laid f largest zero = tt
 words_laid f largest (suc n) = ((omega arith, (tt, tt)), words_laid f largest n)
 
 -- the bytes of numbers that are small enough are read with no fault
-pub words_accepted : (f : Fault) (largest : ℕ) (vs : List ℕ) → All (λ v. v ≤ largest) vs →
+pub words_accepted : (f : Fault) (largest : ℕ) (vs : List ℕ) → AllByRecursion (λ v. v ≤ largest) vs →
     reading_fault (replicate (length vs) (word_up_to f largest)) (words_bytes vs) ≡ None
 words_accepted f largest [] h = refl
 words_accepted f largest (v ∷ vs) h =

@@ -2,7 +2,7 @@
 -- at one place the one with the smallest number. Assumes nothing.
 use Rattle.std.specs.Prelude.{◌≡◌, ℕ, Bool, true, false, cond, ◌&&◌, ◌||◌, List, [], ◌∷◌, Some, None, Option, ◌==◌, nat_lt}
 use Rattle.std.specs.Option.{option_map}
-use Rattle.std.specs.List.{ContainsAt as Has, AllByRecursion as All}
+use Rattle.std.specs.List.{ContainsAt, AllByRecursion}
 use Rattle.lines.specs.declared.fault.Fault.{Fault}
 use Rattle.lines.specs.Faults.{number_of}
 
@@ -29,12 +29,12 @@ unfoldable pub first_fault : List Check → Option Fault
 first_fault cs = option_map (λ c. c.fault) (first_broken cs)
 
 abbrev pub Unbroken : List Check → Type 0
-Unbroken cs = All (λ c. c.broken ≡ false) cs
+Unbroken cs = AllByRecursion (λ c. c.broken ≡ false) cs
 
 -- f is the fault of a broken check before which no other broken one counts
 abbrev pub Earliest : List Check → Fault → Type 0
 Earliest cs f =
-    (c : Check) × Has cs c × (c.broken ≡ true) × (c.fault ≡ f) × All (λ d. d.broken ≡ true → before d c ≡ false) cs
+    (c : Check) × ContainsAt cs c × (c.broken ≡ true) × (c.fault ≡ f) × AllByRecursion (λ d. d.broken ≡ true → before d c ≡ false) cs
 
 -- the fault of a unit with such checks, if it has one
 abbrev pub IsFirstFault : List Check → Option Fault → Type 0

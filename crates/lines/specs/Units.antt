@@ -1,7 +1,7 @@
 -- A unit of bytes as a row of fields, and the checks that it must meet. A field is a number of some bytes, the high
 -- byte first, that stands where the fields before it end. Assumes nothing.
 use Rattle.std.specs.Prelude.{ℕ, ◌+◌, ◌<◌, ◌≤◌, Bool, true, cond, not, ◌&&◌, List, [], ◌∷◌, ◌++◌, length, take, drop, Some, None, Option, nat_eq, nat_le, nat_lt}
-use Rattle.std.specs.List.{AllByRecursion as All}
+use Rattle.std.specs.List.{AllByRecursion}
 use Rattle.sums.specs.Value.{value_of}
 use Rattle.lines.specs.declared.fault.Fault.{Fault}
 use Rattle.lines.specs.declared.fault.Fault.TheVariants.{Malformed}
@@ -74,8 +74,8 @@ reading_fault (f ∷ fs) bs =
 -- the rules of one field have rising numbers
 abbrev pub Rising : List Rule → Type 0
 Rising [] = Unit {0}
-Rising (r ∷ rs) = All (λ s. number_of r.fault ≤ number_of s.fault) rs × Rising rs
+Rising (r ∷ rs) = AllByRecursion (λ s. number_of r.fault ≤ number_of s.fault) rs × Rising rs
 
 -- each field has a place of its own, since it has a byte at least, and rules in the order in which they count
 abbrev pub Laid : List Field → Type 0
-Laid fs = All (λ f. (0 < f.width) × Rising f.rules) fs
+Laid fs = AllByRecursion (λ f. (0 < f.width) × Rising f.rules) fs

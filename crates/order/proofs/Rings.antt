@@ -2,14 +2,14 @@
 -- Assumes nothing.
 use Rattle.std.proofs.Common.{◌≡◌, ℕ, ◌*◌, ◌<◌, true, List, [], ◌∷◌, length, None, refl, arith}
 use Rattle.std.proofs.lemmas.Bool.{lt-ltb, le-ltb}
-use Rattle.std.specs.List.{AllByRecursion as All}
+use Rattle.std.specs.List.{AllByRecursion}
 use Rattle.members.specs.Answers.{refused_ring, refused_whole}
 use Rattle.members.specs.Ring.{State, all_below}
 use Rattle.members.proofs.Answered.{ring_taken, whole_taken}
 use Rattle.frames.specs.declared.settings.Settings.{Settings}
 use Rattle.order.specs.Tidings.{Numbered}
 
-all_below_lem : (k : ℕ) (s : List ℕ) → All (λ x. x < k) s → all_below k s ≡ true
+all_below_lem : (k : ℕ) (s : List ℕ) → AllByRecursion (λ x. x < k) s → all_below k s ≡ true
 unfolding all_below
 all_below_lem k [] h = refl
 all_below_lem k (x ∷ xs) h = rw (lt-ltb x k h.0, all_below_lem k xs h.1)

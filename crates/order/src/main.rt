@@ -9,6 +9,7 @@ use frames::{Fault, Member, read_numbers, read_settings};
 use help::HELP;
 use inputs::{Stop, answer_help, next_unit_with};
 use std::io::BufReader;
+use std::process::ExitCode;
 use telling::tell;
 use tidings::Tidings;
 
@@ -39,17 +40,23 @@ fn run(rt: &HostRuntime) -> Result<(), Stop> {
     let mut lines = 0;
     let mut text = Vec::new(heap);
     let mut bytes = Vec::new(heap);
-    let ending = next_unit_with(&mut input, &mut text, &mut bytes, &mut lines)?.ok_or(Fault::Malformed)?;
+    let ending = next_unit_with(&mut input, &mut text, &mut bytes, &mut lines)?.ok_or(
+        Fault::Malformed,
+    )?;
     let settings = ending.settle(read_settings(bytes.as_slice()))?;
-    let ending = next_unit_with(&mut input, &mut text, &mut bytes, &mut lines)?.ok_or(Fault::Malformed)?;
+    let ending = next_unit_with(&mut input, &mut text, &mut bytes, &mut lines)?.ok_or(
+        Fault::Malformed,
+    )?;
     let numbers = ending.settle_read(read_numbers(heap, bytes.as_slice(), &settings))?;
     print(rt, &tell(heap, &settings, numbers.as_slice())?)
 }
 
-fn main(rt: HostRuntime) -> Result<(), Stop> {
-    let result = run(&rt);
-    if let Err(stop) = &result {
-        eprintln!(rt; "order: {stop}")?;
+fn main(rt: HostRuntime) -> ExitCode {
+    match run(&rt) {
+        Ok(()) => ExitCode::SUCCESS,
+        Err(stop) => {
+            let _ = eprintln!(rt; "order: {stop}");
+            ExitCode::FAILURE
+        }
     }
-    result
 }

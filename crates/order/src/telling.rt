@@ -23,11 +23,7 @@ fn wait_of(settings: &Settings, numbers: &[u16], post: u8) -> usize
 }
 
 // Tells who has the token in a ring with these settings and numbers, and when each post has its turn.
-pub fn tell(
-    heap: Global,
-    settings: &Settings,
-    numbers: &[u16],
-) -> Result<Tidings, AllocError>
+pub fn tell(heap: Global, settings: &Settings, numbers: &[u16]) -> Result<Tidings, AllocError>
     requires { Numbered settings.now numbers.now }
     ensures { IfOk result (Right (ring_of settings.now.k numbers.now) numbers.now settings.now.posts) }
 {

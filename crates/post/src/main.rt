@@ -13,6 +13,7 @@ use inputs::{Stop, answer_help, next_unit_with};
 use posts::{Act, Memory, Post};
 use reply::Reply;
 use std::io::BufReader;
+use std::process::ExitCode;
 
 fn print_act(rt: &HostRuntime, act: Act) -> Result<(), Stop> {
     if act.speaks {
@@ -49,9 +50,13 @@ fn run(rt: &HostRuntime) -> Result<(), Stop> {
     let mut lines = 0;
     let mut text = Vec::new(rt.alloc());
     let mut bytes = Vec::new(rt.alloc());
-    let ending = next_unit_with(&mut input, &mut text, &mut bytes, &mut lines)?.ok_or(Fault::Malformed)?;
+    let ending = next_unit_with(&mut input, &mut text, &mut bytes, &mut lines)?.ok_or(
+        Fault::Malformed,
+    )?;
     let settings = ending.settle(read_settings(bytes.as_slice()))?;
-    let ending = next_unit_with(&mut input, &mut text, &mut bytes, &mut lines)?.ok_or(Fault::Malformed)?;
+    let ending = next_unit_with(&mut input, &mut text, &mut bytes, &mut lines)?.ok_or(
+        Fault::Malformed,
+    )?;
     let place = ending.settle(read_place(bytes.as_slice(), &settings))?;
     let mut post = Post::new(place, Memory::from_bytes([0; 16]), &settings)?;
     for _ in 0..u64::MAX {
@@ -65,10 +70,12 @@ fn run(rt: &HostRuntime) -> Result<(), Stop> {
     Ok(())
 }
 
-fn main(rt: HostRuntime) -> Result<(), Stop> {
-    let result = run(&rt);
-    if let Err(stop) = &result {
-        eprintln!(rt; "post: {stop}")?;
+fn main(rt: HostRuntime) -> ExitCode {
+    match run(&rt) {
+        Ok(()) => ExitCode::SUCCESS,
+        Err(stop) => {
+            let _ = eprintln!(rt; "post: {stop}");
+            ExitCode::FAILURE
+        }
     }
-    result
 }

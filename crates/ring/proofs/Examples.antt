@@ -1,6 +1,6 @@
 -- The worked examples hold: for each row there are tests that are computed, and where they pass its claim is true. Assumes nothing.
 use Rattle.std.proofs.Common.{◌≡◌, ℕ, zero, suc, pred, ◌+◌, ◌*◌, ◌<◌, Bool, true, false, cond, not, ◌&&◌, T, eqb, ltb, leb, List, [], ◌∷◌, ◌++◌, length, get_or, refl, ap, ◌∙◌, subst, le_of_suc-le-suc, not-suc-le-zero, arith, eqb→eq, ltb→lt, leb→le}
-use Rattle.std.specs.List.{AllByRecursion as All}
+use Rattle.std.specs.List.{AllByRecursion}
 use Rattle.frames.specs.declared.settings.Settings.{Settings}
 use Rattle.lines.specs.Checks.{first_fault}
 use Rattle.frames.specs.FrameUnit.{frame_bytes, frame_checks}
@@ -31,7 +31,7 @@ pass : List Bool → Bool
 pass [] = true
 pass (b ∷ bs) = b && pass bs
 
-passing : (bs : List Bool) → T (pass bs) → All T bs
+passing : (bs : List Bool) → T (pass bs) → AllByRecursion T bs
 unfolding pass
 passing [] h = tt
 passing (b ∷ bs) h = let p = both b (pass bs) h in (p.0, passing bs p.1)
@@ -146,7 +146,7 @@ tests (speaking o m es moves to speaker) =
     pass (leads_tests o m es moves to) ∷ eqb (how_many r s r.members) 1 ∷ ltb speaker o.posts ∷
     (deeds_in o (post_at (run o es m) speaker)).speaks ∷ same (holders r s) (3 * speaker ∷ []) ∷ []
 
-shown : (x : Example) → All T (tests x) → Shows x
+shown : (x : Example) → AllByRecursion T (tests x) → Shows x
 unfolding tests Shows
 shown (moving r from who to those) h =
     let m = subst (λ v. (q : Moves r from (length who) v) × (movers q ≡ who)) (same_is (after r from who) to h.1.0) (moves_after r from who h.0) in
@@ -195,7 +195,7 @@ all_pass : List Example → Bool
 all_pass [] = true
 all_pass (x ∷ xs) = pass (tests x) && all_pass xs
 
-all_shown : (xs : List Example) → T (all_pass xs) → All Shows xs
+all_shown : (xs : List Example) → T (all_pass xs) → AllByRecursion Shows xs
 unfolding all_pass
 all_shown [] h = tt
 all_shown (x ∷ xs) h = let p = both (pass (tests x)) (all_pass xs) h in (shown x (passing (tests x) p.0), all_shown xs p.1)

@@ -2,7 +2,7 @@
 -- claims, by the definitions that the promises are made of. Assumes nothing.
 use Rattle.std.specs.Prelude.{◌≡◌, ℕ, zero, suc, pred, ◌+◌, ◌*◌, ◌<◌, ◌≤◌, Bool, true, false, cond, not, ◌&&◌, List, [], ◌∷◌, ◌++◌, length}
 use Rattle.std.proofs.Common.{lit≤}
-use Rattle.std.specs.List.{AllByRecursion as All}
+use Rattle.std.specs.List.{AllByRecursion}
 use Rattle.frames.specs.declared.settings.Settings.{Settings}
 use Rattle.members.specs.Ring.{Ring, State, may, Moves, movers}
 use Rattle.posts.specs.declared.memory.Memory.{Memory}
@@ -172,4 +172,4 @@ table =
 
 -- every row of the table is true
 abbrev pub Examples : Type 0
-Examples = All Shows table
+Examples = AllByRecursion Shows table

@@ -12,6 +12,7 @@ use printing::Printer;
 use ring::{Line, PlayError, play};
 use std::alloc::{AllocError, Global};
 use std::io::{BufReader, Read};
+use std::process::ExitCode;
 
 // At the beginning all memories are zero and all buttons up.
 fn first_posts(heap: Global, settings: &Settings) -> Result<Vec<Post>, AllocError> {
@@ -84,10 +85,12 @@ fn run(rt: &HostRuntime) -> Result<(), Stop> {
     }
 }
 
-fn main(rt: HostRuntime) -> Result<(), Stop> {
-    let result = run(&rt);
-    if let Err(stop) = &result {
-        eprintln!(rt; "storm: {stop}")?;
+fn main(rt: HostRuntime) -> ExitCode {
+    match run(&rt) {
+        Ok(()) => ExitCode::SUCCESS,
+        Err(stop) => {
+            let _ = eprintln!(rt; "storm: {stop}");
+            ExitCode::FAILURE
+        }
     }
-    result
 }

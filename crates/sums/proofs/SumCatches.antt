@@ -3,7 +3,7 @@
 use Rattle.std.proofs.Common.{◌≡◌, ℕ, zero, suc, ◌+◌, ◌-◌, ◌*◌, ◌/◌, ◌%◌, ◌^◌, ◌<◌, ◌≤◌, Bool, true, false, not, ◌&&◌, eqb, leb, ◌⊎◌, List, [], ◌∷◌, ◌++◌, length, take, drop, fold, sym, refl, ap, ◌∙◌, subst, inl, inr, add-zero, mod-eq_of_lt, suc-add, mul-pos, pow-suc, zero-add, div-one, one-add, arith, lit<, pow_pos, pow-add, shr-shr}
 use lib.Bits.{bit_xor, block_half, block_odd, shifted_half, shifted_even, xor_block, xor_lt, xor_self, xor_zero_r, xor_shr, xor_mod}
 use lib.Count.{ones, ones_step}
-use Rattle.std.specs.List.{flat_map, AllByRecursion as All}
+use Rattle.std.specs.List.{flat_map, AllByRecursion}
 use Rattle.std.proofs.lemmas.Nat.{mod_below, shl_below}
 use Rattle.std.proofs.ByRecursion.{All-drop}
 use Rattle.std.proofs.lemmas.List.{length-drop, take-append-drop}
@@ -69,7 +69,7 @@ run_append r (suc j) k v b h =
     ∙ ap (λ x. with_bit x (b % 2)) (run_append r j k v (b / 2) half) ∙ sym (run_step (run r k v) j b)
 
 -- all bits of some bytes, as one number
-bytes_run : (bs : List ℕ) (r k v : ℕ) → All (λ b. b < 256) bs →
+bytes_run : (bs : List ℕ) (r k v : ℕ) → AllByRecursion (λ b. b < 256) bs →
     remainder (run r k v) (flat_map (bits_down 8) bs) ≡ run r (8 * length bs + k) (fold (λ x b. x * 256 + b) v bs)
 unfolding run
 bytes_run [] r k v h = ap (λ n. run r n v) (sym (zero-add k))
@@ -118,7 +118,7 @@ bits_append r (x ∷ xs) ys =
     remainder_append r (bits_down 8 x) (flat_map (bits_down 8) (xs ++ ys)) ∙ bits_append (remainder r (bits_down 8 x)) xs ys
     ∙ sym (ap (λ q. remainder q (flat_map (bits_down 8) ys)) (remainder_append r (bits_down 8 x) (flat_map (bits_down 8) xs)))
 
-value_small : (bs : List ℕ) (v k : ℕ) → v < 2 ^ k → All (λ b. b < 256) bs → fold (λ x b. x * 256 + b) v bs < 2 ^ (8 * length bs + k)
+value_small : (bs : List ℕ) (v k : ℕ) → v < 2 ^ k → AllByRecursion (λ b. b < 256) bs → fold (λ x b. x * 256 + b) v bs < 2 ^ (8 * length bs + k)
 value_small [] v k h a = subst (λ n. v < 2 ^ n) (sym (zero-add k)) h
 value_small (b ∷ bs) v k h a =
     let low = a.0 in
@@ -131,7 +131,7 @@ unfolding run sum_of
 right_zero bs six right =
     let s = sum_of (take 4 bs) in
     let last = drop 4 bs in
-    let octets : All (λ b. b < 256) last = All-drop (λ b. b < 256) 4 bs six.1 in
+    let octets : AllByRecursion (λ b. b < 256) last = All-drop (λ b. b < 256) 4 bs six.1 in
     let two : 8 * length last + 0 ≡ 16 = omega (arith, length-drop 4 bs, six.0) in
     let all : 8 * length bs + 0 ≡ 48 = omega (arith, six.0) in
     let small : s < 65536 = subst (λ x. x < 65536) (sym right) (subst (λ n. value_of last < 2 ^ n) two (value_small last 0 0 (lit< tt) octets)) in

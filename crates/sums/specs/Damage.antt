@@ -1,11 +1,11 @@
 -- Damage on a line: some bits of a frame are turned over. Assumes nothing.
 use Rattle.std.specs.Prelude.{◌≡◌, ℕ, ◌*◌, ◌^◌, ◌<◌, ◌≤◌, Bool, false, ◌⊎◌, List, length, take, drop, bit_xor, count_ones}
-use Rattle.std.specs.List.{AllByRecursion as All}
+use Rattle.std.specs.List.{AllByRecursion}
 use Rattle.sums.specs.Value.{value_of}
 use Rattle.sums.specs.Sum.{sum_of}
 
 abbrev pub SixBytes : List ℕ → Type 0
-SixBytes bs = (length bs ≡ 6) × All (λ b. b < 256) bs
+SixBytes bs = (length bs ≡ 6) × AllByRecursion (λ b. b < 256) bs
 
 -- the last two of six bytes are the checksum of the others
 abbrev pub RightSum : List ℕ → Type 0

@@ -1,6 +1,6 @@
 -- What `read_numbers` owes, from what `read_words` ensures. Assumes nothing.
 use Rattle.std.proofs.Common.{◌≡◌, ℕ, ◌-◌, ◌*◌, ◌<◌, ◌≤◌, List, length, take, replicate, Some, None, vec_items, vec_len, Option, sym, ap, ◌∙◌, subst, arith}
-use Rattle.std.specs.List.{AllByRecursion as All}
+use Rattle.std.specs.List.{AllByRecursion}
 use Rattle.std.proofs.ByRecursion.{All-weaker}
 use Rattle.std.proofs.lemmas.Result.{err_from_is_err_and}
 use Rattle.lines.specs.declared.fault.Fault.{Fault}
@@ -53,12 +53,12 @@ returns c =
     let long : vec_len v ≡ length words = c.in_ok-from_slice.ensures.len in
     let kept : length words ≡ places c.members.result = c.read_words.auto.words in
     let bytes : words_bytes words ≡ c.args.bytes.now = told.value in
-    let below : All (λ x. x ≤ s.k - 1) words = told.bound in
+    let below : AllByRecursion (λ x. x ≤ s.k - 1) words = told.bound in
     let e = told_first s c.args.bytes.now c.members.result None c.members.ensures told.fault in
     record {
       fault = e;
       first = is_first _ _ e;
       value = ap words_bytes copied ∙ bytes;
       len = long ∙ kept ∙ lent_places 63 c.members.result (3 * s.posts) c.members.ensures (omega (arith, s.few));
-      below = subst (All (λ x. x < s.k)) (sym copied) (All-weaker _ _ (λ x h. omega (arith, s.some, s.enough)) words below);
+      below = subst (AllByRecursion (λ x. x < s.k)) (sym copied) (All-weaker _ _ (λ x h. omega (arith, s.some, s.enough)) words below);
     }
