@@ -112,7 +112,7 @@ pub fn next_unit<R: BufRead>(
     bytes: &mut Vec<u8>,
     lines: &mut u64,
 ) -> Result<Option<Ending>, Stop>
-    ensures { IfOk result (λ o. IfSome o (λ e. is_blank record { bytes = bytes.exit.now.items; ending = e } ≡ false)) }
+    ensures { IfOk result (λ o. IfSome o (λ e. is_blank record { bytes = bytes.new.items; ending = e } ≡ false)) }
 {
     let mut text = Vec::new(*bytes.allocator());
     next_unit_with(input, &mut text, bytes, lines)

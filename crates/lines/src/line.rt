@@ -32,7 +32,7 @@ enum Symbol {
 impl Ending {
     // Whether a line that ended so, with these bytes on it, is passed over.
     pub fn is_blank(self, bytes: &[u8]) -> bool
-        ensures { result ≡ is_blank record { bytes = bytes.entry.now; ending = self } }
+        ensures { result ≡ is_blank record { bytes = bytes.now; ending = self } }
     {
         match self {
             Ending::Whole => bytes.is_empty(),

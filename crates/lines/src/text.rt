@@ -26,7 +26,7 @@ fn push_byte(text: &mut String, byte: u8) -> Result<(), AllocError>
 // The line that is read as these bytes: two digits to a byte, and a blank between. Where memory fails, `text` has a first part of it.
 pub fn write_line(bytes: &[u8], text: &mut String) -> Result<(), AllocError>
     ensures value { OnOk result (string_bytes text.new ≡ hex_text bytes.now) }
-    ensures back { OnOk result (line_of (string_bytes text.new) ≡ record { bytes = bytes.entry.now; ending = Whole }) }
+    ensures back { OnOk result (line_of (string_bytes text.new) ≡ record { bytes = bytes.now; ending = Whole }) }
     ensures first { OnErr result ((rest : List ℕ) × (string_bytes text.new ++ rest ≡ hex_text bytes.now)) }
 {
     text.clear();

@@ -18,7 +18,7 @@ fn first_byte(bytes: &[u8]) -> u8
 // A frame on a line that ended so.
 fn hear(post: Post, settings: &Settings, ending: Ending, bytes: &[u8]) -> (Post, Reply)
     requires { slice_index bytes.now 0 ≡ 1 }
-    ensures { result ≡ reply_to settings.now post record { bytes = bytes.entry.now; ending = ending } }
+    ensures { result ≡ reply_to settings.now post record { bytes = bytes.now; ending = ending } }
 {
     if let Err(fault) = ending.settle(read_frame(bytes, settings, post.place())) {
         return (post, Reply::Refused(fault));
@@ -43,7 +43,7 @@ fn obey_order(post: Post, settings: &Settings, order: PostOrder) -> (Post, Reply
 // An order on a line that ended so.
 fn obey(post: Post, settings: &Settings, ending: Ending, bytes: &[u8]) -> (Post, Reply)
     requires { slice_index bytes.now 0 ≢ 1 }
-    ensures { result ≡ reply_to settings.now post record { bytes = bytes.entry.now; ending = ending } }
+    ensures { result ≡ reply_to settings.now post record { bytes = bytes.now; ending = ending } }
 {
     match ending.settle(read_post_order(bytes, post.place())) {
         Ok(order) => obey_order(post, settings, order),
@@ -53,7 +53,7 @@ fn obey(post: Post, settings: &Settings, ending: Ending, bytes: &[u8]) -> (Post,
 
 // What the post does with a line of these bytes that ended so.
 pub fn reply(post: Post, settings: &Settings, ending: Ending, bytes: &[u8]) -> (Post, Reply)
-    ensures { result ≡ reply_to settings.now post record { bytes = bytes.entry.now; ending = ending } }
+    ensures { result ≡ reply_to settings.now post record { bytes = bytes.now; ending = ending } }
 {
     if first_byte(bytes) == 1 {
         hear(post, settings, ending, bytes)

@@ -22,11 +22,11 @@ pub(crate) fn play_tick(
     tally: &mut Tally,
     i: usize,
 )
-    requires { (Kept settings.now record { posts = posts.now; lines = lines.old } numbers.old tally.old) × ((i < settings.now.posts) × (tally.old.moves + 2 < 2 ^ 64)) }
-    ensures posts { posts.exit.now ≡ (tick_of settings.now i record { posts = posts.entry.now; lines = lines.old }).posts }
-    ensures lines { lines.new ≡ (tick_of settings.now i record { posts = posts.entry.now; lines = lines.old }).lines }
-    ensures numbers { numbers.new ≡ state_in settings.now (tick_of settings.now i record { posts = posts.entry.now; lines = lines.old }) }
-    ensures tally { tally.new ≡ tallied settings.now (tick i) record { posts = posts.entry.now; lines = lines.old } tally.old }
+    requires { (Kept settings.now record { posts = posts.old; lines = lines.old } numbers.old tally.old) × ((i < settings.now.posts) × (tally.old.moves + 2 < 2 ^ 64)) }
+    ensures posts { posts.new ≡ (tick_of settings.now i record { posts = posts.old; lines = lines.old }).posts }
+    ensures lines { lines.new ≡ (tick_of settings.now i record { posts = posts.old; lines = lines.old }).lines }
+    ensures numbers { numbers.new ≡ state_in settings.now (tick_of settings.now i record { posts = posts.old; lines = lines.old }) }
+    ensures tally { tally.new ≡ tallied settings.now (tick i) record { posts = posts.old; lines = lines.old } tally.old }
 {
     let (post, act) = posts[i].tick(settings);
     posts[i] = post;
@@ -62,10 +62,10 @@ pub(crate) fn play_hear(
     tally: &mut Tally,
     i: usize,
 )
-    requires { (Kept settings.now record { posts = posts.now; lines = lines.now } numbers.old tally.old) × ((i < settings.now.posts) × (tally.old.moves + 1 < 2 ^ 64)) }
-    ensures posts { posts.exit.now ≡ (hear_of settings.now i record { posts = posts.entry.now; lines = lines.now }).posts }
-    ensures numbers { numbers.new ≡ state_in settings.now (hear_of settings.now i record { posts = posts.entry.now; lines = lines.now }) }
-    ensures tally { tally.new ≡ tallied settings.now (hear i) record { posts = posts.entry.now; lines = lines.now } tally.old }
+    requires { (Kept settings.now record { posts = posts.old; lines = lines.now } numbers.old tally.old) × ((i < settings.now.posts) × (tally.old.moves + 1 < 2 ^ 64)) }
+    ensures posts { posts.new ≡ (hear_of settings.now i record { posts = posts.old; lines = lines.now }).posts }
+    ensures numbers { numbers.new ≡ state_in settings.now (hear_of settings.now i record { posts = posts.old; lines = lines.now }) }
+    ensures tally { tally.new ≡ tallied settings.now (hear i) record { posts = posts.old; lines = lines.now } tally.old }
 {
     let before = post_before(settings, i);
     let line = lines[before];

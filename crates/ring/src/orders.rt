@@ -21,9 +21,9 @@ pub(crate) fn obey(
     i: usize,
     order: Order,
 )
-    requires { (Sound settings.now record { posts = posts.now; lines = lines.old } tally.old) × ((numbers.old ≡ state_in settings.now record { posts = posts.now; lines = lines.old }) × ((i < settings.now.posts) × (tally.old.moves + 2 < 2 ^ 64))) }
-    ensures holds { Holds settings.now (obeyed settings.now i order record { machine = record { posts = posts.entry.now; lines = lines.old }; tally = tally.old }).machine posts.exit.now lines.new numbers.new }
-    ensures tally { tally.new ≡ (obeyed settings.now i order record { machine = record { posts = posts.entry.now; lines = lines.old }; tally = tally.old }).tally }
+    requires { (Sound settings.now record { posts = posts.old; lines = lines.old } tally.old) × ((numbers.old ≡ state_in settings.now record { posts = posts.old; lines = lines.old }) × ((i < settings.now.posts) × (tally.old.moves + 2 < 2 ^ 64))) }
+    ensures holds { Holds settings.now (obeyed settings.now i order record { machine = record { posts = posts.old; lines = lines.old }; tally = tally.old }).machine posts.new lines.new numbers.new }
+    ensures tally { tally.new ≡ (obeyed settings.now i order record { machine = record { posts = posts.old; lines = lines.old }; tally = tally.old }).tally }
 {
     match order {
         Order::Tick => play_tick(settings, posts, lines, numbers, tally, i),

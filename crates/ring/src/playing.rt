@@ -28,11 +28,11 @@ impl Report {
         ending: Ending,
         line: u64,
     ) -> Result<(), AllocError>
-        requires { (Sound settings.now record { posts = posts.now; lines = lines.old } self.old.tally) × ((numbers.old ≡ state_in settings.now record { posts = posts.now; lines = lines.old }) × (self.old.tally.moves + 2 < 2 ^ 64)) }
-        ensures holds { MatchResult result (λ _. Holds settings.now (line_stage settings.now record { bytes = bytes.entry.now; ending = ending } record { machine = record { posts = posts.entry.now; lines = lines.old }; tally = self.old.tally }).machine posts.exit.now lines.new numbers.new) (λ _. Holds settings.now record { posts = posts.entry.now; lines = lines.old } posts.exit.now lines.new numbers.new) }
-        ensures tally { OnOk result (self.new.tally ≡ (line_stage settings.now record { bytes = bytes.entry.now; ending = ending } record { machine = record { posts = posts.entry.now; lines = lines.old }; tally = self.old.tally }).tally) }
-        ensures says { OnOk result (Adds self.old self.new (line_says settings.now line record { bytes = bytes.entry.now; ending = ending } record { posts = posts.entry.now; lines = lines.old })) }
-        ensures sound { OnOk result (Sound settings.now record { posts = posts.exit.now; lines = lines.new } self.new.tally) }
+        requires { (Sound settings.now record { posts = posts.old; lines = lines.old } self.old.tally) × ((numbers.old ≡ state_in settings.now record { posts = posts.old; lines = lines.old }) × (self.old.tally.moves + 2 < 2 ^ 64)) }
+        ensures holds { MatchResult result (λ _. Holds settings.now (line_stage settings.now record { bytes = bytes.now; ending = ending } record { machine = record { posts = posts.old; lines = lines.old }; tally = self.old.tally }).machine posts.new lines.new numbers.new) (λ _. Holds settings.now record { posts = posts.old; lines = lines.old } posts.new lines.new numbers.new) }
+        ensures tally { OnOk result (self.new.tally ≡ (line_stage settings.now record { bytes = bytes.now; ending = ending } record { machine = record { posts = posts.old; lines = lines.old }; tally = self.old.tally }).tally) }
+        ensures says { OnOk result (Adds self.old self.new (line_says settings.now line record { bytes = bytes.now; ending = ending } record { posts = posts.old; lines = lines.old })) }
+        ensures sound { OnOk result (Sound settings.now record { posts = posts.new; lines = lines.new } self.new.tally) }
         ensures moves { OnOk result (self.new.tally.moves ≤ self.old.tally.moves + 2) }
     {
         if ending.is_blank(bytes) {

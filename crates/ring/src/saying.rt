@@ -59,7 +59,7 @@ impl Report {
         post: u8,
     ) -> Result<(), AllocError>
         requires { post < length posts.now }
-        ensures says { OnOk result (((ls : List Line) → numbers.now ≡ state_in settings.now record { posts = posts.entry.now; lines = ls } → Adds self.old self.new (show settings.now post record { posts = posts.entry.now; lines = ls } ∷ []))) }
+        ensures says { OnOk result (((ls : List Line) → numbers.now ≡ state_in settings.now record { posts = posts.now; lines = ls } → Adds self.old self.new (show settings.now post record { posts = posts.now; lines = ls } ∷ []))) }
         ensures tally { self.new.tally ≡ self.old.tally }
     {
         self.numbers.extend_from_slice(numbers)?;

@@ -28,7 +28,7 @@ fn all_seated(posts: &[Post]) -> bool
 // The number of member `j`.
 fn member_number(settings: &Settings, posts: &[Post], lines: &[Line], j: usize) -> u16
     requires { (Whole settings.now.posts record { posts = posts.now; lines = lines.now }) × (j < 3 * settings.now.posts) }
-    ensures { result ≡ member_of settings.now.posts (numbers_of settings.now record { posts = posts.entry.now; lines = lines.now }) j }
+    ensures { result ≡ member_of settings.now.posts (numbers_of settings.now record { posts = posts.now; lines = lines.now }) j }
 {
     let i = j / 3;
     let k = settings.k;
@@ -45,7 +45,7 @@ fn member_number(settings: &Settings, posts: &[Post], lines: &[Line], j: usize) 
 // Writes the numbers of all members over whatever stood there.
 fn write_numbers(settings: &Settings, posts: &[Post], lines: &[Line], numbers: &mut [u16])
     requires { (Whole settings.now.posts record { posts = posts.now; lines = lines.now }) × (length numbers.old ≡ 3 * settings.now.posts) }
-    ensures { numbers.new ≡ state_in settings.now record { posts = posts.entry.now; lines = lines.now } }
+    ensures { numbers.new ≡ state_in settings.now record { posts = posts.now; lines = lines.now } }
 {
     for j in 0..numbers.len() {
         numbers[j] = member_number(settings, posts, lines, j);
@@ -60,8 +60,8 @@ pub(crate) fn start(
     numbers: &mut [u16],
 ) -> Result<Tally, PlayError>
     ensures fits { MatchResult result (λ _. Fitting settings.now posts.now lines.now numbers.old) (λ e. (e ≡ Unfit) × (Fitting settings.now posts.now lines.now numbers.old → ⊥)) }
-    ensures numbers { MatchResult result (λ _. numbers.new ≡ state_in settings.now record { posts = posts.entry.now; lines = lines.now }) (λ _. numbers.new ≡ numbers.old) }
-    ensures tally { IfOk result (λ y. y ≡ anew (ring_of_settings settings.now) (state_in settings.now record { posts = posts.entry.now; lines = lines.now })) }
+    ensures numbers { MatchResult result (λ _. numbers.new ≡ state_in settings.now record { posts = posts.now; lines = lines.now }) (λ _. numbers.new ≡ numbers.old) }
+    ensures tally { IfOk result (λ y. y ≡ anew (ring_of_settings settings.now) (state_in settings.now record { posts = posts.now; lines = lines.now })) }
 {
     let count = usize::from(settings.posts);
     if posts.len() != count
