@@ -3,21 +3,24 @@ use crate::Stop;
 use std::env;
 use std::rt::Env;
 
-// Whether a program is asked what it does. Any other argument says nothing.
-fn asks_for_help<R: Env + Alloc>(rt: &R) -> Result<bool, Stop> {
+// Whether a program is asked what it does. Any other argument says nothing, nor do arguments that can't be read.
+fn asks_for_help<R: Env + Alloc>(rt: &R) -> bool {
+    let Ok(arguments) = env::args(rt) else {
+        return false;
+    };
     let mut asked = false;
-    for argument in env::args(rt)?.skip(1) {
+    for argument in arguments.skip(1) {
         match argument.as_str() {
             "--help" | "-h" => asked = true,
             _ => {}
         }
     }
-    Ok(asked)
+    asked
 }
 
 // Prints what a program does, where it is asked that, and says whether it was.
 pub fn answer_help<R: Env + Alloc + Print>(rt: &R, help: &[&str]) -> Result<bool, Stop> {
-    if !asks_for_help(rt)? {
+    if !asks_for_help(rt) {
         return Ok(false);
     }
     for line in help {

@@ -59,6 +59,10 @@ no_broken (c ∷ cs) e =
       | inr b ↦ (b, no_broken cs (sym (first_whole c cs b) ∙ e))
     ]
 
+none_broken : (cs : List Check) → Unbroken cs → first_broken cs ≡ None
+none_broken [] h = refl
+none_broken (c ∷ cs) h = first_whole c cs h.0 ∙ none_broken cs h.1
+
 -- c is the broken check that counts first
 Least : List Check → Check → Type 0
 Least cs c = ContainsAt cs c × (c.broken ≡ true) × AllByRecursion (λ d. d.broken ≡ true → before d c ≡ false) cs
@@ -104,6 +108,10 @@ mapped_some (Some c) f e = (c, refl, cc)
 pub unbroken_from_none : (cs : List Check) → first_fault cs ≡ None → Unbroken cs
 unfolding first_fault
 unbroken_from_none cs e = no_broken cs (unmapped (first_broken cs) e)
+
+pub none_from_unbroken : (cs : List Check) → Unbroken cs → first_fault cs ≡ None
+unfolding first_fault
+none_from_unbroken cs h = ap (option_map (λ c. c.fault)) (none_broken cs h)
 
 pub earliest_from_some : (cs : List Check) (f : Fault) → first_fault cs ≡ Some f → Earliest cs f
 unfolding first_fault Least

@@ -12,7 +12,7 @@ use Rattle.ring.specs.Disturbances.{memory_becomes, frame_becomes, memory_number
 use Rattle.ring.specs.Machine.{Machine, Whole, numbers_of, state_in}
 use Rattle.ring.specs.Numbers.{end_before, state_of}
 use Rattle.ring.specs.declared.tally.Tally.{Tally}
-use Rattle.ring.specs.Tallies.{Countable, anew}
+use Rattle.ring.specs.Tallies.{Counted, anew}
 use Rattle.ring.proofs.Machines.{set_map, same_numbers, machine_fit}
 use Rattle.ring.proofs.Places.{own_set, sent_set, heard_set}
 
@@ -20,7 +20,7 @@ pub anew_ap : {r q : Ring} {s t : State} → r ≡ q → s ≡ t → anew r s �
 anew_ap {r} {q} {s} {t} a b = cc
 
 -- numbers after a disturbance can be noted
-pub anew_kept : (s : State) (j v : ℕ) (y : Tally) → 2 < length s → ((k : ℕ) → y ≡ anew (ring_of k s) (set s j v)) → Countable (set s j v) y.holders
+pub anew_kept : (s : State) (j v : ℕ) (y : Tally) → 2 < length s → ((k : ℕ) → y ≡ anew (ring_of k s) (set s j v)) → Counted (set s j v) y.holders
 unfolding anew
 anew_kept s j v y g q =
     let e = length-set s j v in

@@ -3,7 +3,7 @@ use Rattle.std.proofs.Common.{◌≡◌, ℕ, zero, suc, ◌+◌, ◌<◌, ◌�
 use Rattle.std.proofs.lemmas.Bool.{cases_eq, cond-true, cond-false, eq-eqb, ne_eqb}
 use Rattle.std.proofs.lemmas.Bool.Decides.{nat_tests}
 use Rattle.members.specs.Ring.{Ring, State, at, may, how_many, after}
-use Rattle.ring.specs.Tallies.{held_near, noted, one_more}
+use Rattle.ring.specs.Tallies.{Countable, Counted, held_near, noted, one_more}
 use Rattle.ring.specs.declared.tally.Tally.{Tally}
 use Rattle.ring.specs.Numbers.{changed}
 use Rattle.ring.proofs.Changes.{changed_none, changed_one}
@@ -20,6 +20,10 @@ pub count_any : (n k l : ℕ) (s : State) (i : ℕ) → how_many (record { membe
 unfolding how_many
 count_any n k l s zero = refl
 count_any n k l s (suc i) = ap (λ b. cond b 1 0 + how_many (record { members = n; k = k }) s i) (may_any n k l s i) ∙ ap (λ c. cond (may (record { members = n; k = l }) s i) 1 0 + c) (count_any n k l s i)
+
+-- so a count for one K is a count for every K
+pub countable_counted : (k : ℕ) (s : State) (holders : ℕ) → Countable k s holders → Counted s holders
+countable_counted k s holders c = record { big = c.big; counted = λ l. c.counted ∙ count_any (length s) k l s (length s) }
 
 -- what two members count for, among members 0 to n - 1
 abbrev part : Ring → State → ℕ → ℕ → ℕ

@@ -21,7 +21,7 @@ use Rattle.ring.specs.declared.line.Line.{Line as RingLine}
 use Rattle.ring.specs.declared.tally.Tally.{Tally}
 use Rattle.ring.specs.Bound.{Sound}
 use Rattle.ring.specs.Machine.{Machine}
-use Rattle.ring.specs.Plays.{Stage, refused, obeyed, answered, order_of, line_fault, stage_by, says_by, line_stage, line_says, played, sayings}
+use Rattle.ring.specs.Plays.{Stage, refused, obeyed, answered, order_of, line_fault, stage_by, says_by, stage_of_line, says_of_line, line_stage, line_says, played, sayings}
 use Rattle.ring.specs.Reports.{Holds}
 
 -- what holds whatever comes
@@ -81,48 +81,57 @@ module _ (o : Settings) (l : Line) (a r : Result Command Fault) (e : result_err 
       }
 
 module _ (o : Settings) (l : Line) (x : Stage) (n : ℕ) where
-  pub blank_stage : is_blank l ≡ true → line_stage o l x ≡ x
-  unfolding line_stage
+  pub blank_stage : is_blank l ≡ true → stage_of_line o l x ≡ x
+  unfolding stage_of_line
   blank_stage b = cond-true _ _ _ b
 
-  pub blank_says : is_blank l ≡ true → line_says o n l x.machine ≡ []
-  unfolding line_says
+  pub blank_says : is_blank l ≡ true → says_of_line o n l x.machine ≡ []
+  unfolding says_of_line
   blank_says b = cond-true _ _ _ b
 
   module _ (b : is_blank l ≡ false) where
-    pub refused_stage : (f : Fault) → Some f ≡ line_fault o l → line_stage o l x ≡ x
-    unfolding line_stage
+    pub refused_stage : (f : Fault) → Some f ≡ line_fault o l → stage_of_line o l x ≡ x
+    unfolding stage_of_line
     refused_stage f e = cond-false _ _ _ b ∙ ap (λ z. stage_by z o l.bytes x) (sym e)
 
-    pub refused_says : (f : Fault) → Some f ≡ line_fault o l → line_says o n l x.machine ≡ refused n f ∷ []
-    unfolding line_says
+    pub refused_says : (f : Fault) → Some f ≡ line_fault o l → says_of_line o n l x.machine ≡ refused n f ∷ []
+    unfolding says_of_line
     refused_says f e = cond-false _ _ _ b ∙ ap (λ z. says_by z o n l.bytes x.machine) (sym e)
 
     module _ (c : Command) (e : None ≡ line_fault o l) (q : order_bytes c ≡ l.bytes) where
-      pub order_stage : line_stage o l x ≡ obeyed o c.post c.order x
-      unfolding line_stage
+      pub order_stage : stage_of_line o l x ≡ obeyed o c.post c.order x
+      unfolding stage_of_line
       order_stage =
           cond-false _ _ _ b ∙ (ap (λ z. stage_by z o l.bytes x) (sym e) ∙
           (ap (λ bs. stage_by None o bs x) (sym q) ∙ ap (λ z. obeyed o c.post z x) (order_back c.order)))
 
-      pub order_says : line_says o n l x.machine ≡ answered o c.post c.order x.machine
-      unfolding line_says
+      pub order_says : says_of_line o n l x.machine ≡ answered o c.post c.order x.machine
+      unfolding says_of_line
       order_says =
           cond-false _ _ _ b ∙ (ap (λ z. says_by z o n l.bytes x.machine) (sym e) ∙
           (ap (λ bs. says_by None o n bs x.machine) (sym q) ∙ ap (λ z. answered o c.post z x.machine) (order_back c.order)))
 
+-- a line of a script is what is read of it
+pub stage_read : (o : Settings) (text : List ℕ) (x : Stage) → stage_of_line o (line_of text) x ≡ line_stage o text x
+unfolding stage_of_line line_stage
+stage_read o text x = refl
+
+pub says_read : (o : Settings) (n : ℕ) (text : List ℕ) (m : Machine) → says_of_line o n (line_of text) m ≡ line_says o n text m
+unfolding says_of_line line_says
+says_read o n text m = refl
+
 -- one line more
-pub played_more : (o : Settings) (done : List (List ℕ)) (l : List ℕ) (x : Stage) → played o (done ++ l ∷ []) x ≡ line_stage o (line_of l) (played o done x)
+pub played_more : (o : Settings) (done : List (List ℕ)) (l : List ℕ) (x : Stage) → played o (done ++ l ∷ []) x ≡ line_stage o l (played o done x)
 unfolding played
 played_more o [] l x = refl
-played_more o (d ∷ ds) l x = played_more o ds l (line_stage o (line_of d) x)
+played_more o (d ∷ ds) l x = played_more o ds l (line_stage o d x)
 
 pub sayings_more : (o : Settings) (n : ℕ) (done : List (List ℕ)) (l : List ℕ) (x : Stage) →
-    sayings o n (done ++ l ∷ []) x ≡ sayings o n done x ++ line_says o (suc (n + length done)) (line_of l) (played o done x).machine
+    sayings o n (done ++ l ∷ []) x ≡ sayings o n done x ++ line_says o (suc (n + length done)) l (played o done x).machine
 unfolding played sayings
-sayings_more o n [] l x = ap (λ k. line_says o (suc k) (line_of l) x.machine ++ []) (sym (add-zero n)) ∙ append-nil (line_says o (suc (n + 0)) (line_of l) x.machine)
+sayings_more o n [] l x = ap (λ k. line_says o (suc k) l x.machine ++ []) (sym (add-zero n)) ∙ append-nil (line_says o (suc (n + 0)) l x.machine)
 sayings_more o n (d ∷ ds) l x =
     let k = add-suc n (length ds) in
-    ap (λ z. line_says o (suc n) (line_of d) x.machine ++ z) (sayings_more o (suc n) ds l (line_stage o (line_of d) x)) ∙
-    (sym (append_assoc (line_says o (suc n) (line_of d) x.machine) (sayings o (suc n) ds (line_stage o (line_of d) x)) (line_says o (suc (suc n + length ds)) (line_of l) (played o ds (line_stage o (line_of d) x)).machine)) ∙
-    ap (λ z. (line_says o (suc n) (line_of d) x.machine ++ sayings o (suc n) ds (line_stage o (line_of d) x)) ++ line_says o (suc z) (line_of l) (played o ds (line_stage o (line_of d) x)).machine) (omega arith))
+    ap (λ z. line_says o (suc n) d x.machine ++ z) (sayings_more o (suc n) ds l (line_stage o d x)) ∙
+    (sym (append_assoc (line_says o (suc n) d x.machine) (sayings o (suc n) ds (line_stage o d x)) (line_says o (suc (suc n + length ds)) l (played o ds (line_stage o d x)).machine)) ∙
+    ap (λ z. (line_says o (suc n) d x.machine ++ sayings o (suc n) ds (line_stage o d x)) ++ line_says o (suc z) l (played o ds (line_stage o d x)).machine) (omega arith))

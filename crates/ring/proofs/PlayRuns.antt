@@ -2,7 +2,6 @@
 use Rattle.std.proofs.Common.{◌≡◌, ℕ, suc, ◌+◌, ◌*◌, ◌<◌, ◌≤◌, List, [], ◌∷◌, ◌++◌, length, sym, refl, ap, ◌∙◌, subst, append_assoc, append-nil, arith, length-append}
 use Rattle.std.proofs.lemmas.List.{nil_from_length}
 use Rattle.frames.specs.declared.settings.Settings.{Settings}
-use Rattle.lines.specs.Hex.{line_of}
 use Rattle.lines.specs.Text.{lines_of}
 use Rattle.members.specs.Ring.{State}
 use Rattle.posts.specs.declared.post.Post.{Post}
@@ -61,21 +60,21 @@ module _ (o : Settings) (script rest : List ℕ) (m : Machine) (ps : List Post) 
 
   -- one line more
   pub midplay_more : (text after : List ℕ) (ps' : List Post) (ls' : List Line) (s' : State) (q : Report) → lines_of rest ≡ text ∷ lines_of after → length after < length rest →
-      Holds o (line_stage o (line_of text) (record { machine = record { posts = ps; lines = ls }; tally = r.tally })).machine ps' ls' s' →
-      q.tally ≡ (line_stage o (line_of text) (record { machine = record { posts = ps; lines = ls }; tally = r.tally })).tally →
-      Adds r q (line_says o (line + 1) (line_of text) (record { posts = ps; lines = ls })) → Sound o (record { posts = ps'; lines = ls' }) q.tally → q.tally.moves ≤ r.tally.moves + 2 →
+      Holds o (line_stage o text (record { machine = record { posts = ps; lines = ls }; tally = r.tally })).machine ps' ls' s' →
+      q.tally ≡ (line_stage o text (record { machine = record { posts = ps; lines = ls }; tally = r.tally })).tally →
+      Adds r q (line_says o (line + 1) text (record { posts = ps; lines = ls })) → Sound o (record { posts = ps'; lines = ls' }) q.tally → q.tally.moves ≤ r.tally.moves + 2 →
       Midplay o script after m ps' ls' s' (line + 1) q
   midplay_more text after ps' ls' s' q e l f y a g c =
       let x = begins o m in
       let d = played_more o h.done text x in
       let n : line + 1 ≡ suc (0 + length h.done) = omega (arith, h.so_far) in
-      let p = ap (λ k. line_says o k (line_of text) (record { posts = ps; lines = ls })) n ∙ ap (λ (z : Stage). line_says o (suc (0 + length h.done)) (line_of text) z.machine) here in
+      let p = ap (λ k. line_says o k text (record { posts = ps; lines = ls })) n ∙ ap (λ (z : Stage). line_says o (suc (0 + length h.done)) text z.machine) here in
       record {
         done = h.done ++ text ∷ [];
         split = append_assoc h.done (text ∷ []) (lines_of after) ∙ (ap (λ z. h.done ++ z) (sym e) ∙ h.split);
         so_far = omega (arith, h.so_far, length-append h.done (text ∷ []));
-        holds = subst (λ z. Holds o z.machine ps' ls' s') (ap (line_stage o (line_of text)) here ∙ sym d) f;
-        tally = y ∙ ap (λ (z : Stage). z.tally) (ap (line_stage o (line_of text)) here ∙ sym d);
+        holds = subst (λ z. Holds o z.machine ps' ls' s') (ap (line_stage o text) here ∙ sym d) f;
+        tally = y ∙ ap (λ (z : Stage). z.tally) (ap (line_stage o text) here ∙ sym d);
         tells = subst (Tells q) (sym (sayings_more o 0 h.done text x)) (tells_more r q (sayings o 0 h.done x) _ h.tells (subst (Adds r q) p a));
         sound = g;
         few_lines = omega (arith, h.few_lines);

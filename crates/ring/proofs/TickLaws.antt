@@ -14,7 +14,7 @@ use Rattle.ring.specs.Events.{Kept, midway, tallied}
 use Rattle.ring.specs.Machine.{Machine, Whole, nobody, post_at, post_doing, tick, tick_of, step, numbers_of, state_in}
 use Rattle.ring.specs.Numbers.{Numbers, Fit, state_of}
 use Rattle.ring.specs.Promise.{ring_of_settings}
-use Rattle.ring.specs.Tallies.{Countable, noted}
+use Rattle.ring.specs.Tallies.{Counted, noted}
 use Rattle.ring.proofs.Holders.{count_any, noted_same, noted_other, noted_none, noted_ap}
 use Rattle.ring.proofs.Machines.{positive, doing_below, acts_parts, taken, doing_numbers, machine_fit}
 use Rattle.ring.proofs.Places.{state_length, own_set, sent_set}
@@ -30,7 +30,7 @@ pub kept_length : (o : Settings) (m : Machine) (s : State) (y : Tally) → Kept 
 kept_length o m s y h = ap length h.same ∙ state_length o.posts (numbers_of o m)
 
 -- numbers that are the machine's can be noted
-pub kept_numbers : (o : Settings) (m : Machine) (s : State) (y : Tally) → Kept o m s y → Countable s y.holders
+pub kept_numbers : (o : Settings) (m : Machine) (s : State) (y : Tally) → Kept o m s y → Counted s y.holders
 kept_numbers o m s y h =
     let e = kept_length o m s y h in
     record {
@@ -39,7 +39,7 @@ kept_numbers o m s y h =
     }
 
 -- numbers after a note can be noted again
-pub noted_kept : (s : State) (j v : ℕ) (y z : Tally) → Countable s y.holders → j < length s → ((k : ℕ) → z ≡ noted (ring_of k s) s (set s j v) y) → Countable (set s j v) z.holders
+pub noted_kept : (s : State) (j v : ℕ) (y z : Tally) → Counted s y.holders → j < length s → ((k : ℕ) → z ≡ noted (ring_of k s) s (set s j v) y) → Counted (set s j v) z.holders
 noted_kept s j v y z h l q =
     let e = length-set s j v in
     record {

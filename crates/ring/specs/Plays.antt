@@ -114,18 +114,25 @@ abbrev pub says_by : Option Fault → Settings → ℕ → List ℕ → Machine 
 says_by None o n bs m = answered o (slice_index bs 1) (order_of (slice_index bs 2) (drop 3 bs)) m
 says_by (Some f) o n bs m = refused n f ∷ []
 
--- line n of a script, by what it holds: one with nothing on it is passed over, a refused one changes nothing and is said
-unfoldable pub line_stage : Settings → Line → Stage → Stage
-line_stage o l x = cond (is_blank l) x (stage_by (line_fault o l) o l.bytes x)
+-- a line, by what it holds: one with nothing on it is passed over, a refused one changes nothing and is said
+unfoldable pub stage_of_line : Settings → Line → Stage → Stage
+stage_of_line o l x = cond (is_blank l) x (stage_by (line_fault o l) o l.bytes x)
 
-unfoldable pub line_says : Settings → ℕ → Line → Machine → List Saying
-line_says o n l m = cond (is_blank l) [] (says_by (line_fault o l) o n l.bytes m)
+unfoldable pub says_of_line : Settings → ℕ → Line → Machine → List Saying
+says_of_line o n l m = cond (is_blank l) [] (says_by (line_fault o l) o n l.bytes m)
+
+-- line n of a script: one with nothing on it is passed over, a refused one changes nothing and is said
+unfoldable pub line_stage : Settings → List ℕ → Stage → Stage
+line_stage o text x = cond (is_blank (line_of text)) x (stage_by (line_fault o (line_of text)) o (line_of text).bytes x)
+
+unfoldable pub line_says : Settings → ℕ → List ℕ → Machine → List Saying
+line_says o n text m = cond (is_blank (line_of text)) [] (says_by (line_fault o (line_of text)) o n (line_of text).bytes m)
 
 -- the lines of a script, one after the other, those before it being n
 unfoldable pub played : Settings → List (List ℕ) → Stage → Stage
 played o [] x = x
-played o (l ∷ ls) x = played o ls (line_stage o (line_of l) x)
+played o (l ∷ ls) x = played o ls (line_stage o l x)
 
 unfoldable pub sayings : Settings → ℕ → List (List ℕ) → Stage → List Saying
 sayings o n [] x = []
-sayings o n (l ∷ ls) x = line_says o (suc n) (line_of l) x.machine ++ sayings o (suc n) ls (line_stage o (line_of l) x)
+sayings o n (l ∷ ls) x = line_says o (suc n) l x.machine ++ sayings o (suc n) ls (line_stage o l x)

@@ -1,12 +1,19 @@
 -- Moves counted since the last disturbance, and the count at which one member only might move for the first time. Assumes nothing.
-use Rattle.std.specs.Prelude.{◌≡◌, ℕ, ◌+◌, ◌<◌, Bool, cond, length, Some, None, Option, ◌==◌}
+use Rattle.std.specs.Prelude.{◌≡◌, ℕ, ◌+◌, ◌<◌, ◌≤◌, Bool, cond, T, length, Some, None, Option, ◌==◌}
 use Rattle.members.specs.Answers.{ring_of}
-use Rattle.members.specs.Ring.{Ring, State, may, how_many, after}
+use Rattle.members.specs.Ring.{Ring, State, all_below, may, how_many, after}
 use Rattle.ring.specs.declared.tally.Tally.{Tally}
 use Rattle.ring.specs.Numbers.{changed}
 
+-- numbers of a ring that the code takes, with the count of members that may move
+pub record Countable (k : ℕ) (s : State) (holders : ℕ) : Type 0 where
+  pub big : 2 < length s
+  pub wide : length s ≤ k
+  pub below : T (all_below k s)
+  pub counted : holders ≡ how_many (ring_of k s) s (length s)
+
 -- numbers of a ring with the count of members that may move, whatever K is
-pub record Countable (s : State) (holders : ℕ) : Type 0 where
+pub record Counted (s : State) (holders : ℕ) : Type 0 where
   pub big : 2 < length s
   pub counted : (k : ℕ) → holders ≡ how_many (ring_of k s) s (length s)
 

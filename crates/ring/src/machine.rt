@@ -7,7 +7,7 @@ ghost use Rattle.ring.specs.Events.{Kept, tallied};
 ghost use Rattle.ring.specs.Machine.{hear, hear_of, losing, nobody, state_in, tick, tick_of, unused};
 ghost use Rattle.ring.specs.Numbers.{preceding};
 ghost use Rattle.ring.specs.Promise.{ring_of_settings};
-ghost use Rattle.ring.specs.Tallies.{Countable, anew};
+ghost use Rattle.ring.specs.Tallies.{Counted, anew};
 
 use crate::{Line, Tally};
 use frames::Settings;
@@ -105,7 +105,7 @@ pub(crate) fn disturb_memory(
     i: usize,
     memory: Memory,
 )
-    requires { (Countable numbers.old tally.old.holders) × ((length numbers.old ≡ 3 * settings.now.posts) × ((length posts.old ≡ settings.now.posts) × (i < settings.now.posts))) }
+    requires { (Counted numbers.old tally.old.holders) × ((length numbers.old ≡ 3 * settings.now.posts) × ((length posts.old ≡ settings.now.posts) × (i < settings.now.posts))) }
     ensures posts { posts.new ≡ slice_set posts.old i (with_memory memory (slice_index_or posts.old i nobody)) }
     ensures numbers { numbers.new ≡ memory_numbers settings.now.posts settings.now.k i memory numbers.old }
     ensures tally { tally.new ≡ anew (ring_of_settings settings.now) numbers.new }
@@ -134,7 +134,7 @@ pub(crate) fn disturb_frame(
     i: usize,
     frame: [u8; 6],
 )
-    requires { (Countable numbers.old tally.old.holders) × ((length numbers.old ≡ 3 * settings.now.posts) × ((length lines.old ≡ settings.now.posts) × (i < settings.now.posts))) }
+    requires { (Counted numbers.old tally.old.holders) × ((length numbers.old ≡ 3 * settings.now.posts) × ((length lines.old ≡ settings.now.posts) × (i < settings.now.posts))) }
     ensures lines { lines.new ≡ set lines.old i record { frame = frame; lost = false } }
     ensures numbers { numbers.new ≡ frame_numbers settings.now.k i frame numbers.old }
     ensures tally { tally.new ≡ anew (ring_of_settings settings.now) numbers.new }

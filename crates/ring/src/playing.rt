@@ -3,7 +3,7 @@ ghost use Rattle.std.specs.Prelude.{◌≡◌, ◌+◌, ◌^◌, ◌<◌, ◌≤
 ghost use Rattle.ring.specs.Bound.{Sound};
 ghost use Rattle.ring.specs.Examples.{Examples};
 ghost use Rattle.ring.specs.Machine.{state_in};
-ghost use Rattle.ring.specs.Plays.{line_says, line_stage};
+ghost use Rattle.ring.specs.Plays.{says_of_line, stage_of_line};
 ghost use Rattle.ring.specs.Promise.{Heals, Progress, Refines, SpeaksAlone};
 ghost use Rattle.ring.specs.Reports.{Adds, Holds, Outcome};
 
@@ -29,9 +29,9 @@ impl Report {
         line: u64,
     ) -> Result<(), AllocError>
         requires { (Sound settings.now record { posts = posts.old; lines = lines.old } self.old.tally) × ((numbers.old ≡ state_in settings.now record { posts = posts.old; lines = lines.old }) × (self.old.tally.moves + 2 < 2 ^ 64)) }
-        ensures holds { MatchResult result (λ _. Holds settings.now (line_stage settings.now record { bytes = bytes.now; ending = ending } record { machine = record { posts = posts.old; lines = lines.old }; tally = self.old.tally }).machine posts.new lines.new numbers.new) (λ _. Holds settings.now record { posts = posts.old; lines = lines.old } posts.new lines.new numbers.new) }
-        ensures tally { OnOk result (self.new.tally ≡ (line_stage settings.now record { bytes = bytes.now; ending = ending } record { machine = record { posts = posts.old; lines = lines.old }; tally = self.old.tally }).tally) }
-        ensures says { OnOk result (Adds self.old self.new (line_says settings.now line record { bytes = bytes.now; ending = ending } record { posts = posts.old; lines = lines.old })) }
+        ensures holds { MatchResult result (λ _. Holds settings.now (stage_of_line settings.now record { bytes = bytes.now; ending = ending } record { machine = record { posts = posts.old; lines = lines.old }; tally = self.old.tally }).machine posts.new lines.new numbers.new) (λ _. Holds settings.now record { posts = posts.old; lines = lines.old } posts.new lines.new numbers.new) }
+        ensures tally { OnOk result (self.new.tally ≡ (stage_of_line settings.now record { bytes = bytes.now; ending = ending } record { machine = record { posts = posts.old; lines = lines.old }; tally = self.old.tally }).tally) }
+        ensures says { OnOk result (Adds self.old self.new (says_of_line settings.now line record { bytes = bytes.now; ending = ending } record { posts = posts.old; lines = lines.old })) }
         ensures sound { OnOk result (Sound settings.now record { posts = posts.new; lines = lines.new } self.new.tally) }
         ensures moves { OnOk result (self.new.tally.moves ≤ self.old.tally.moves + 2) }
     {

@@ -2,12 +2,12 @@
 use Rattle.std.proofs.Common.{◌≡◌, ℕ, ◌+◌, ◌<◌, ◌≤◌, length, set, refl, ap, arith, length-set}
 use Rattle.members.specs.Answers.{ring_of}
 use Rattle.members.specs.Ring.{State, how_many}
-use Rattle.ring.specs.Tallies.{Countable, held_near}
+use Rattle.ring.specs.Tallies.{Counted, held_near}
 use Rattle.ring.proofs.Holders.{shifted, few, near_few}
 use Rattle.ring.proofs.counting.shift.Goals as goal
 
 -- the count before and after, by what was looked at
-balanced : (s : State) (j v h a b : ℕ) → Countable s h → j < length s → ((k : ℕ) → a ≡ held_near (ring_of k s) s j) → ((k : ℕ) → b ≡ held_near (ring_of k (set s j v)) (set s j v) j) → (k : ℕ) →
+balanced : (s : State) (j v h a b : ℕ) → Counted s h → j < length s → ((k : ℕ) → a ≡ held_near (ring_of k s) s j) → ((k : ℕ) → b ≡ held_near (ring_of k (set s j v)) (set s j v) j) → (k : ℕ) →
     (how_many (ring_of k s) (set s j v) (length s) + a ≡ h + b) × (h ≤ length s) × (b ≤ 2)
 balanced s j v h a b g l p q k =
     let t = set s j v in

@@ -1,6 +1,6 @@
 -- The numbers after the first disturbance can be disturbed again.
 use Rattle.std.proofs.Common.{◌≡◌, ◌*◌, length, sym, refl, ap, ◌∙◌, subst, arith, length-set}
-use Rattle.ring.specs.Tallies.{Countable}
+use Rattle.ring.specs.Tallies.{Counted}
 use Rattle.ring.proofs.DisturbLaws.{anew_kept, anew_ap}
 use Rattle.ring.proofs.TickLaws.{ring_same}
 use Rattle.ring.proofs.machine.disturb_memory.Goals as goal
@@ -14,7 +14,7 @@ disturb-requires-2 c =
     let a = c.disturb.ensures.after in
     let v = c.in_range.result in
     let n = length-set s (3 * c.args.i) v in (
-      subst (λ t. Countable t c.disturb.new.self.holders) (sym a) (anew_kept s (3 * c.args.i) v c.disturb.new.self c.requires.0.big c.disturb.ensures.value),
+      subst (λ t. Counted t c.disturb.new.self.holders) (sym a) (anew_kept s (3 * c.args.i) v c.disturb.new.self c.requires.0.big c.disturb.ensures.value),
       omega (arith, ap length a, n, c.requires.1.0, c.post_before-before.ensures.below),
     )
 

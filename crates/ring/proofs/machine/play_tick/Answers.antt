@@ -3,7 +3,7 @@ use Rattle.std.proofs.Common.{◌≡◌, ℕ, ◌+◌, ◌*◌, Bool, true, fals
 use Rattle.std.proofs.lemmas.List.{set-get_or}
 use Rattle.members.specs.Answers.{ring_of}
 use Rattle.ring.specs.Machine.{Machine, line_at, sent_on, unused}
-use Rattle.ring.specs.Tallies.{Countable}
+use Rattle.ring.specs.Tallies.{Counted}
 use Rattle.ring.proofs.Holders.{noted_moves, noted_ap}
 use Rattle.ring.proofs.TickLaws.{ring_set, kept_length, kept_numbers, noted_kept, state_silent, state_sent, tally_silent, tally_sent}
 use Rattle.ring.proofs.machine.play_tick.Goals as goal
@@ -38,7 +38,7 @@ note-requires-in-Some c =
     let a = c.note.ensures.after in
     let y = c.note.ensures.value in
     let k = noted_kept s (3 * i) v c.args.tally.now c.note.new.self (kept_numbers o m s c.args.tally.now h) (omega (arith, n, c.requires.1.0)) y in (
-      subst (λ t. Countable t c.note.new.self.holders) (sym a) k,
+      subst (λ t. Counted t c.note.new.self.holders) (sym a) k,
       (
         omega (arith, ap length a, length-set s (3 * i) v, n, c.requires.1.0),
         omega (arith, ap (λ z. z.moves) (y 0), noted_moves (ring_of 0 s) s (set s (3 * i) v) c.args.tally.now, c.requires.1.1),

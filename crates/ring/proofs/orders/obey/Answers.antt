@@ -14,7 +14,7 @@ use Rattle.ring.specs.Machine.{Machine, post_at, step, state_in}
 use Rattle.ring.specs.Numbers.{state_of}
 use Rattle.ring.specs.Plays.{Stage, obeyed}
 use Rattle.ring.specs.Reports.{Holds}
-use Rattle.ring.specs.Tallies.{Countable}
+use Rattle.ring.specs.Tallies.{Counted}
 use Rattle.ring.proofs.DisturbLaws.{anew_ap, memory_state, frame_state}
 use Rattle.ring.proofs.HearLaws.{hear_lines}
 use Rattle.ring.proofs.KeptLaws.{sound_kept}
@@ -34,7 +34,7 @@ left o i x {ps = ps} {ls = ls} {s = s} {y = y} e h t =
     (subst (λ z. Holds o (obeyed o i z x).machine ps ls s) (sym e) h, t ∙ ap (λ z. (obeyed o i z x).tally) (sym e))
 
 -- numbers that can be disturbed
-disturbable : (o : Settings) (m : Machine) (s : State) (y : Tally) → Sound o m y → s ≡ state_in o m → Countable s y.holders × (length s ≡ 3 * o.posts)
+disturbable : (o : Settings) (m : Machine) (s : State) (y : Tally) → Sound o m y → s ≡ state_in o m → Counted s y.holders × (length s ≡ 3 * o.posts)
 disturbable o m s y h e = let k = sound_kept o m s y h e in (kept_numbers o m s y k, kept_length o m s y k)
 
 pub disturb_memory-requires : goal.disturb_memory-requires

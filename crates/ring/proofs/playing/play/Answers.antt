@@ -8,9 +8,9 @@ use Rattle.lines.specs.Text.{first_line, after_line, lines_of}
 use Rattle.lines.proofs.ThreeLaws.{three_long}
 use Rattle.lines.proofs.TextLaws.{some_left, lines_first, after_shorter}
 use Rattle.ring.specs.Machine.{Machine}
-use Rattle.ring.specs.Plays.{line_stage, line_says}
+use Rattle.ring.specs.Plays.{Stage, stage_of_line, says_of_line}
 use Rattle.ring.specs.Reports.{Adds, Holds, Outcome}
-use Rattle.ring.proofs.PlayLaws.{line_is}
+use Rattle.ring.proofs.PlayLaws.{line_is, stage_read, says_read}
 use Rattle.ring.proofs.Examples.{examples}
 use Rattle.ring.proofs.Going.{progress}
 use Rattle.ring.proofs.Healing.{heals, speaks_alone}
@@ -121,12 +121,15 @@ loop-rest-preserved c =
     let ls = c.loop-rest.lines in
     let y = c.loop-rest.report.tally in
     let d = line_is (line_of (first_line s)) c.unit_of-unit.result.now c.match-three.ending.0 f.0 f.1 in
+    let before : Stage = record { machine = record { posts = ps; lines = ls }; tally = y } in
+    let e = ap (λ z. stage_of_line o z before) d ∙ stage_read o (first_line s) before in
+    let n = c.loop-rest.line + 1 in
     midplay_more o c.args.script.now s m ps ls c.loop-rest.numbers c.loop-rest.line c.loop-rest.report c.loop-rest.invariant
     (first_line s) c.match-three.ending.1.now x.posts x.lines x.numbers x.self (lines_first s l ∙ ap (λ t. first_line s ∷ lines_of t) (sym f.2))
     (omega (arith, after_shorter s l, ap length f.2))
-    (subst (λ z. Holds o (line_stage o z (record { machine = record { posts = ps; lines = ls }; tally = y })).machine x.posts x.lines x.numbers) d h.holds)
-    (h.tally ∙ ap (λ z. (line_stage o z (record { machine = record { posts = ps; lines = ls }; tally = y })).tally) d)
-    (subst (λ z. Adds c.loop-rest.report x.self (line_says o (c.loop-rest.line + 1) z (record { posts = ps; lines = ls }))) d h.says) h.sound h.moves
+    (subst (λ (z : Stage). Holds o z.machine x.posts x.lines x.numbers) e h.holds)
+    (h.tally ∙ ap (λ (z : Stage). z.tally) e)
+    (subst (Adds c.loop-rest.report x.self) (ap (λ z. says_of_line o n z before.machine) d ∙ says_read o n (first_line s) before.machine) h.says) h.sound h.moves
 
 pub returns : goal.returns
 returns c =

@@ -5,7 +5,7 @@ use Rattle.lines.specs.Hex.{Line}
 use Rattle.ring.specs.declared.tally.Tally.{Tally}
 use Rattle.ring.specs.Bound.{Sound}
 use Rattle.ring.specs.Machine.{Machine, state_in}
-use Rattle.ring.specs.Plays.{Stage, show, obeyed, answered, line_stage, line_says}
+use Rattle.ring.specs.Plays.{Stage, show, obeyed, answered, stage_of_line, says_of_line}
 use Rattle.ring.specs.Reports.{Adds, Holds}
 use Rattle.ring.proofs.ObeyLaws.{sound_obeyed, obeyed_moves, quiet_order}
 use Rattle.ring.proofs.PlayLaws.{whichever, always_made, holds_sound, fault_found, order_found, blank_stage, blank_says, refused_stage, refused_says, order_stage, order_says}
@@ -79,8 +79,8 @@ returns-in-Show c =
     let n = c.args.line in
     let b = sym c.is_blank.ensures ∙ c.if-is_blank.false in
     let d = order_found o k c.read_order.result c.settle.result c.read_order.ensures.fault c.settle.ensures.fault c.settle.ensures.value c.read_order.ensures.value c.read_order.ensures.below c.in-Ok.command c.in-Ok.is in
-    let e : line_stage o k x ≡ x = order_stage o k x n b c.in-Ok.command d.faultless d.written ∙ ap (λ z. obeyed o c.in-Ok.command.post z x) c.in-Show.is in
-    let t : line_says o n k m ≡ show o c.in-Ok.command.post m ∷ [] = order_says o k x n b c.in-Ok.command d.faultless d.written ∙ ap (λ z. answered o c.in-Ok.command.post z m) c.in-Show.is in
+    let e : stage_of_line o k x ≡ x = order_stage o k x n b c.in-Ok.command d.faultless d.written ∙ ap (λ z. obeyed o c.in-Ok.command.post z x) c.in-Show.is in
+    let t : says_of_line o n k m ≡ show o c.in-Ok.command.post m ∷ [] = order_says o k x n b c.in-Ok.command d.faultless d.written ∙ ap (λ z. answered o c.in-Ok.command.post z m) c.in-Show.is in
     let y = c.show.ensures.tally in
     record {
       holds = whichever c.show.result
@@ -102,9 +102,9 @@ returns-in_default c =
     let b = sym c.is_blank.ensures ∙ c.if-is_blank.false in
     let d = order_found o k c.read_order.result c.settle.result c.read_order.ensures.fault c.settle.ensures.fault c.settle.ensures.value c.read_order.ensures.value c.read_order.ensures.below c.in-Ok.command c.in-Ok.is in
     let p = c.in-Ok.command.post in
-    let e : line_stage o k x ≡ obeyed o c.from-post.result c.in-Ok.command.order x =
+    let e : stage_of_line o k x ≡ obeyed o c.from-post.result c.in-Ok.command.order x =
     order_stage o k x n b c.in-Ok.command d.faultless d.written ∙ ap (λ i. obeyed o i c.in-Ok.command.order x) (sym c.from-post.ensures) in
-    let t : line_says o n k m ≡ [] = order_says o k x n b c.in-Ok.command d.faultless d.written ∙ quiet_order o p c.in-Ok.command.order m c.in_default.not-Show in
+    let t : says_of_line o n k m ≡ [] = order_says o k x n b c.in-Ok.command d.faultless d.written ∙ quiet_order o p c.in-Ok.command.order m c.in_default.not-Show in
     let h = c.obey.ensures.holds in
     let y = c.obey.ensures.tally in
     let g = sound_obeyed o c.from-post.result c.in-Ok.command.order x c.requires.0 (subst (λ i. i < o.posts) (sym c.from-post.ensures) d.below) in
