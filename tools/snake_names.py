@@ -4,7 +4,7 @@
 usage: tools/snake_names.py       at the top of a checkout whose files have the newer Rattle's spelling
 
 Only names that a file of specs/ or proofs/ declares are turned, and their fields and constructors; types, modules, goals (names that Rattle
-makes) and the functions of src/ keep theirs. Where two names would fall together the lemma gets `_lem`. Files are rewritten in place.
+makes) and the functions of src/ keep theirs. Where two names would fall together one of them gets another name. Files are rewritten in place.
 """
 
 import collections
