@@ -26,8 +26,12 @@ fn checksums_are_those_of_the_field(rt: HostRuntime) {
 
 #[test]
 fn a_checksum_is_made_bit_by_bit(rt: HostRuntime) {
-    let texts: [&[u8]; 3] = [b"\x01\x00\x00\x00", b"123456789", b"\xff\x7f\x80\x01\xaa"];
-    for text in texts {
+    let cases: [(&[u8], u16); 3] = [
+        (b"\x01\x00\x00\x00", 62_068),
+        (b"123456789", 0x29b1),
+        (b"\xff\x7f\x80\x01\xaa", 0xc1f3),
+    ];
+    for (text, sum) in cases {
         let mut register = 0xffff;
         for byte in text {
             register ^= u16::from_be_bytes([*byte, 0]);
@@ -35,7 +39,8 @@ fn a_checksum_is_made_bit_by_bit(rt: HostRuntime) {
                 register = shift(register);
             }
         }
-        assert_eq!(rt; register, checksum(text));
+        assert_eq!(rt; register, sum);
+        assert_eq!(rt; checksum(text), sum);
     }
 }
 
