@@ -1,11 +1,13 @@
 -- Why a program stops: by the error of a reader, and as text. Assumes nothing.
-use Rattle.std.specs.Prelude.{ℕ, ◌<◌, List, Some, None, codes, Option}
+use Rattle.std.specs.Prelude.{◌≡◌, ℕ, ◌<◌, ◌≤◌, ◌⊎◌, List, Some, None, codes, Option}
 use Prim.{Unit}
+use Rattle.lines.specs.declared.fault.Fault.TheVariants.{Malformed}
 use Rattle.lines.specs.declared.read_error.ReadError.{ReadError}
 use Rattle.lines.specs.declared.read_error.ReadError.TheVariants.{Refused as ReadRefused, Memory as ReadMemory}
 use Rattle.lines.specs.Faults.{fault_text}
-use Rattle.inputs.specs.declared.input.Stop.{Stop}
-use Rattle.inputs.specs.declared.input.Stop.TheVariants.{Refused, Memory, Io}
+use Rattle.inputs.specs.declared.stop.Stop.{Stop}
+use Rattle.inputs.specs.declared.stop.Stop.TheVariants.{Refused, Memory, Io}
+use Rattle.inputs.specs.Taken.{most_lines}
 
 abbrev pub stop_for : ReadError → Stop
 stop_for (ReadRefused f) = Refused f
@@ -22,3 +24,9 @@ abbrev pub StopsAt : ℕ → Stop → Type 0
 StopsAt size (Refused f) = ⊥
 StopsAt size Memory = 0 < size
 StopsAt size (Io e) = Unit {0}
+
+-- why it stops where a unit has to come: for no other fault than that none came
+abbrev pub StopsOrEnds : (size lines : ℕ) → Stop → Type 0
+StopsOrEnds size lines (Refused f) = (f ≡ Malformed) × ((size ≡ 0) ⊎ (most_lines ≤ lines))
+StopsOrEnds size lines Memory = 0 < size
+StopsOrEnds size lines (Io e) = Unit {0}

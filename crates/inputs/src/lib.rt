@@ -1,8 +1,10 @@
-// What a program is called with, units from its input, and why it stops. Assumes nothing.
+// What a program is called with, units from its input, why it stops, and how it ends. Assumes nothing.
 #![tactic(auto)]
 
 mod call;
-mod input;
+mod stop;
+mod units;
 
-pub use call::answer_help;
-pub use input::{Stop, next_unit, next_unit_with};
+pub use call::{answer_help, end};
+pub use stop::Stop;
+pub use units::Units;

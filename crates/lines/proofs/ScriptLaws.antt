@@ -1,18 +1,42 @@
--- The first line of a text. Assumes nothing.
-use Rattle.std.proofs.Common.{◌≡◌, ℕ, zero, suc, ◌<◌, List, [], ◌∷◌, length, get_or, take, drop, ap, ◌∙◌, arith}
-use Rattle.std.proofs.lemmas.Bool.{cond-true, cond-false, eq-eqb, ne_eqb}
-use Rattle.lines.specs.Text.{with_first, lines_of}
+-- The first line of a text by the place of its newline. Assumes nothing.
+use Rattle.std.proofs.Common.{◌≡◌, ℕ, zero, suc, ◌+◌, ◌<◌, ◌≤◌, Bool, true, false, cond, eqb, ltb, List, [], ◌∷◌, length, take, drop, Some, None, refl, ap, subst, ◌-◌, ◌∙◌, sym, arith, not}
+use Rattle.std.specs.List.{position, position_or_len}
+use Rattle.std.proofs.lemmas.Bool.Decides.{nat_tests}
+use Rattle.std.proofs.lemmas.List.{take_rest, take_all, drop_all}
+use Rattle.lines.specs.Text.{first_line, after_line}
 
-pub first_line : (i : ℕ) (s : List ℕ) → i < length s → get_or s i 0 ≡ 10 → ((k : ℕ) → k < i → get_or s k 0 ≡ 10 → ⊥) → lines_of s ≡ take i s ∷ lines_of (drop (suc i) s)
-unfolding lines_of
-first_line i [] l e h = absurd (omega arith)
-first_line zero (c ∷ cs) l e h = cond-true _ _ _ (eq-eqb c 10 e)
-first_line (suc i) (c ∷ cs) l e h =
-    cond-false _ _ _ (ne_eqb c 10 (h 0 (omega arith))) ∙ ap (with_first c) (first_line i cs (omega arith) e (λ k b. h (suc k) (omega arith)))
+-- how many characters stand before the first newline
+abbrev pub before_newline : List ℕ → ℕ
+before_newline s = position_or_len (λ c. eqb c 10) s
 
-pub last_line : (s : List ℕ) → 0 < length s → ((k : ℕ) → k < length s → get_or s k 0 ≡ 10 → ⊥) → lines_of s ≡ s ∷ []
-unfolding lines_of
-last_line [] l h = absurd (omega arith)
-last_line (c ∷ []) l h = cond-false _ _ _ (ne_eqb c 10 (h 0 (omega arith)))
-last_line (c ∷ d ∷ ds) l h =
-    cond-false _ _ _ (ne_eqb c 10 (h 0 (omega arith))) ∙ ap (with_first c) (last_line (d ∷ ds) (omega arith) (λ k b. h (suc k) (omega arith)))
+pub newline_ends_line : (s : List ℕ) → (take (before_newline s) s ≡ first_line s) × (drop (1 + before_newline s) s ≡ after_line s)
+unfolding first_line after_line
+newline_ends_line [] = (refl, refl)
+newline_ends_line (c ∷ cs) = go (eqb c 10) (newline_ends_line cs)
+  where
+    go : (b : Bool) → (take (before_newline cs) cs ≡ first_line cs) × (drop (1 + before_newline cs) cs ≡ after_line cs) →
+        (take (cond (not b) (1 + before_newline cs) 0) (c ∷ cs) ≡ cond b [] (c ∷ first_line cs)) × (drop (1 + cond (not b) (1 + before_newline cs) 0) (c ∷ cs) ≡ cond b cs (after_line cs))
+    go true e = (refl, refl)
+    go false e =
+        let n = before_newline cs in
+        let one : 1 + n ≡ suc n = omega arith in
+        let two : 1 + (1 + n) ≡ suc (1 + n) = omega arith in
+        (ap (λ k. take k (c ∷ cs)) one ∙ ap (λ t. c ∷ t) e.0, ap (λ k. drop k (c ∷ cs)) two ∙ e.1)
+
+-- where a newline was found: the text before it, and the text after it
+pub line_found : (s : List ℕ) (i : ℕ) → Some i ≡ position (λ c. eqb c 10) s → (take i s ≡ first_line s) × (take (length s - (i + 1)) (drop (i + 1) s) ≡ after_line s)
+line_found s i e =
+    let f : (before_newline s ≡ i) × (i < length s) = grind (arith, nat_tests) in
+    let h = newline_ends_line s in (
+      subst (λ n. take n s ≡ first_line s) f.0 h.0,
+      take_rest s (i + 1) ∙ subst (λ n. drop n s ≡ after_line s) (omega (arith, f.0)) h.1,
+    )
+
+-- where none was found: all of it, and nothing
+pub last_line : (s : List ℕ) → None ≡ position (λ c. eqb c 10) s → (s ≡ first_line s) × ([] ≡ after_line s)
+last_line s e =
+    let f : length s ≤ before_newline s = grind (arith, nat_tests) in
+    let h = newline_ends_line s in (
+      sym (take_all (before_newline s) s f) ∙ h.0,
+      sym (drop_all (1 + before_newline s) s (omega (arith, f))) ∙ h.1,
+    )

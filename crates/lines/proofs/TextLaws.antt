@@ -24,9 +24,6 @@ pub some_left : (s : List ℕ) → false ≡ eqb (length s) 0 → 0 < length s
 some_left [] e = let q : ◌≡◌ {A = ℕ} 0 1 = cc in omega arith
 some_left (c ∷ cs) e = omega arith
 
-pub none_left : (s : List ℕ) → true ≡ eqb (length s) 0 → length s ≡ 0
-none_left s e = eqb-true (length s) 0 (sym e)
-
 -- a character that is no newline stands on the first line
 line_more : (c : ℕ) (cs : List ℕ) → (c ≡ 10 → ⊥) → first_line (c ∷ cs) ≡ c ∷ first_line cs
 unfolding first_line
@@ -87,24 +84,6 @@ module _ (c high : ℕ) (digit : Digit high ≡ symbol_of c) where
   half : (cs : List ℕ) → line_of (first_line (c ∷ cs)) ≡ reading (without_return (first_line cs)) (Some high)
   half cs = first_symbol c cs no_stray ∙ ap (λ s. on_symbol s None (reading (without_return (first_line cs)))) (sym digit)
 
-  -- half a byte before something else than a digit
-  cut_line : (d : ℕ) (cs : List ℕ) → ((low : ℕ) → symbol_of d ≡ Digit low → ⊥) → reading (without_return (d ∷ cs)) (Some high) ≡ nothing Damaged
-  cut_line d [] h = go (eqb d 13)
-    where
-      go : (b : Bool) → reading (cond b [] (d ∷ [])) (Some high) ≡ nothing Damaged
-      go true = refl
-      go false = cut_byte high (symbol_of d) (reading []) h
-  cut_line d (e ∷ cs) h = ap (λ t. reading t (Some high)) (return_more d e cs) ∙ cut_byte high (symbol_of d) (reading (without_return (e ∷ cs))) h
-
-  cut : (cs : List ℕ) → (1 < length (c ∷ cs) → (low : ℕ) → Digit low ≡ symbol_of (get_or (c ∷ cs) 1 0) → ⊥) → line_of (first_line (c ∷ cs)) ≡ nothing Damaged
-  unfolding first_line
-  cut [] h = half []
-  cut (d ∷ cs) h = half (d ∷ cs) ∙ go (eqb d 10)
-    where
-      go : (b : Bool) → reading (without_return (cond b [] (d ∷ first_line cs))) (Some high) ≡ nothing Damaged
-      go true = refl
-      go false = cut_line d (first_line cs) (λ low e. h (omega arith) low (sym e))
-
   whole_byte : (d low : ℕ) (cs : List ℕ) → Digit low ≡ symbol_of d →
       (line_of (first_line (c ∷ d ∷ cs)) ≡ prepended (16 * high + low) (line_of (first_line cs))) × (after_line (c ∷ d ∷ cs) ≡ after_line cs)
   whole_byte d low cs e =
@@ -115,11 +94,6 @@ module _ (c high : ℕ) (digit : Digit high ≡ symbol_of c) where
       )
 
 -- what the first characters of a text are, by index, and what is left after them
-
-pub byte_cut : (s : List ℕ) (high : ℕ) → 0 < length s → Digit high ≡ symbol_of (get_or s 0 0) →
-    (1 < length s → (low : ℕ) → Digit low ≡ symbol_of (get_or s 1 0) → ⊥) → line_of (first_line s) ≡ nothing Damaged
-byte_cut [] high l e h = absurd (omega arith)
-byte_cut (c ∷ cs) high l e h = cut c high e cs h
 
 pub byte_more : (s : List ℕ) (high low : ℕ) → 1 < length s → Digit high ≡ symbol_of (get_or s 0 0) → Digit low ≡ symbol_of (get_or s 1 0) →
     (line_of (first_line s) ≡ prepended (16 * high + low) (line_of (first_line (rest_after 2 s)))) × (after_line s ≡ after_line (rest_after 2 s))
@@ -139,18 +113,6 @@ blank_more s l e =
       ap (λ t. line_of (first_line t)) (head_rest s l) ∙ first_symbol c cs h ∙ ap (λ s. on_symbol s None (reading (without_return (first_line cs)))) (sym e),
       ap after_line (head_rest s l) ∙ after_more c cs (no_end c 10 refl h),
     )
-
-pub comment_ends : (s : List ℕ) → 0 < length s → Comment ≡ symbol_of (get_or s 0 0) → line_of (first_line s) ≡ nothing Whole
-comment_ends s l e =
-    let c = get_or s 0 0 in
-    let cs = rest_after 1 s in
-    let h = other (symbol_of c) Comment (sym e) (λ z. let q : ◌≡◌ {A = ℕ} 0 1 = cc in omega arith) in
-    ap (λ t. line_of (first_line t)) (head_rest s l) ∙ first_symbol c cs h ∙ ap (λ s. on_symbol s None (reading (without_return (first_line cs)))) (sym e)
-
-pub text_ends : (s : List ℕ) → length s ≡ 0 → (line_of (first_line s) ≡ nothing Whole) × (s ≡ after_line s)
-unfolding first_line after_line
-text_ends [] e = (refl, refl)
-text_ends (c ∷ cs) e = absurd (omega arith)
 
 -- what holds between two bytes of the first line of a text: those that are held and those of the rest are the line's, and what follows the line is the same
 pub record Between (text held rest : List ℕ) : Type 0 where
@@ -178,33 +140,9 @@ module _ (text held s : List ℕ) (b : Between text held s) where
       let d = done (line_of (first_line text)) held e (subst (Remains (line_of (first_line text)) held) is b.remains) in
       record { line_bytes = d.0; line_ending = d.1; after = same ∙ b.after; whole = line_spelled (first_line text) held e d.0 d.1 }
 
--- how a line ends at a stray character
+-- how a line ends at its newline
 
 pub newline_ends : (s : List ℕ) → 0 < length s → get_or s 0 0 ≡ 10 → line_of (first_line s) ≡ nothing Whole
 unfolding first_line
 newline_ends [] h e = absurd (omega arith)
 newline_ends (c ∷ cs) h e = ap line_of (cond-true _ _ _ (eq-eqb c 10 e))
-
-pub return_ends : (s : List ℕ) → length s ≡ 1 → get_or s 0 0 ≡ 13 → line_of (first_line s) ≡ nothing Whole
-unfolding first_line
-return_ends [] h e = absurd (omega arith)
-return_ends (c ∷ []) h e = ap (λ x. line_of (first_line (x ∷ []))) e
-return_ends (c ∷ d ∷ cs) h e = absurd (omega arith)
-
-pub return_newline_ends : (s : List ℕ) → 1 < length s → get_or s 0 0 ≡ 13 → get_or s 1 0 ≡ 10 → line_of (first_line s) ≡ nothing Whole
-unfolding first_line
-return_newline_ends [] h e f = absurd (omega arith)
-return_newline_ends (c ∷ []) h e f = absurd (omega arith)
-return_newline_ends (c ∷ d ∷ cs) h e f = ap (λ x. line_of (first_line (x ∷ d ∷ cs))) e ∙ ap (λ x. line_of (first_line (13 ∷ x ∷ cs))) f
-
-pub return_damages : (s : List ℕ) → 1 < length s → get_or s 0 0 ≡ 13 → (get_or s 1 0 ≡ 10 → ⊥) → line_of (first_line s) ≡ nothing Damaged
-unfolding first_line
-return_damages [] h e f = absurd (omega arith)
-return_damages (c ∷ []) h e f = absurd (omega arith)
-return_damages (c ∷ d ∷ cs) h e f = ap (λ x. line_of (first_line (x ∷ d ∷ cs))) e ∙ ap (λ t. line_of (13 ∷ t)) (line_more d cs f) ∙ ap (λ t. reading t None) (return_more 13 d (first_line cs))
-
-pub stray_damages : (s : List ℕ) → 0 < length s → symbol_of (get_or s 0 0) ≡ Stray → (get_or s 0 0 ≡ 10 → ⊥) → (get_or s 0 0 ≡ 13 → ⊥) → line_of (first_line s) ≡ nothing Damaged
-stray_damages [] h e f g = absurd (omega arith)
-stray_damages (c ∷ cs) h e f g =
-    ap line_of (line_more c cs f) ∙ ap (λ t. reading t None) (kept c (first_line cs) g)
-    ∙ ap (λ s. on_symbol s None (reading (without_return (first_line cs)))) e

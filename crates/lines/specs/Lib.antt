@@ -6,3 +6,4 @@ pub mod Words
 pub mod Text
 pub mod Hex
 pub mod Refusals
+pub mod UnitLines

@@ -7,15 +7,15 @@ use std::fmt;
 #[derive(Clone, Copy, PartialEq, Eq, Debug)]
 pub enum Fault {
     // an unknown kind or a bad length
-    Malformed,
+    Malformed = 1,
     // a count of posts, a K, a turn or a post that is out of range
-    OutOfRange,
+    OutOfRange = 2,
     // a frame whose checksum is wrong
-    WrongSum,
+    WrongSum = 3,
     // a frame from another post than the one before
-    WrongSender,
+    WrongSender = 4,
     // a member's number of K or more
-    NumberTooLarge,
+    NumberTooLarge = 5,
 }
 
 impl Fault {
@@ -23,13 +23,7 @@ impl Fault {
     pub fn number(self) -> u8
         ensures { result ≡ number_of self }
     {
-        match self {
-            Fault::Malformed => 1,
-            Fault::OutOfRange => 2,
-            Fault::WrongSum => 3,
-            Fault::WrongSender => 4,
-            Fault::NumberTooLarge => 5,
-        }
+        self as u8
     }
 }
 

@@ -6,6 +6,7 @@ mod line;
 mod read_error;
 mod script;
 mod text;
+mod unit;
 mod words;
 
 pub use fault::Fault;
@@ -13,4 +14,5 @@ pub use line::{Ending, read_first_line, read_line, read_three};
 pub use read_error::ReadError;
 pub use script::first_line;
 pub use text::write_line;
+pub use unit::Unit;
 pub use words::read_words;

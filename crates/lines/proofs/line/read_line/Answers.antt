@@ -14,10 +14,10 @@ returns-in_default c =
     let line = line_of c.args.text.now in
     let held = vec_items c.loop-c.bytes in
     let cs = c.without_return-c-items.result.now in
-    let seen = one_character line held cs c.loop-c.c-index c.loop-c.high (Some c.in-Some.digit) c.classify-symbol.result (omega arith)
-    c.in-Some.is c.classify-symbol.ensures c.loop-c.invariant.0 in
+    let seen = one_character line held cs c.loop-c.c-index c.loop-c.high (Some c.in-Some.digit) c.from-symbol.result (omega arith)
+    c.in-Some.is c.from-symbol.ensures c.loop-c.invariant.0 in
     let d = done line held Damaged
-    (subst (Remains line held) (cut_byte c.in-Some.digit c.classify-symbol.result (reading (drop (c.loop-c.c-index + 1) cs)) c.in_default.not-Digit) seen) in
+    (subst (Remains line held) (cut_byte c.in-Some.digit c.from-symbol.result (reading (drop (c.loop-c.c-index + 1) cs)) c.in_default.not-Digit) seen) in
     record { ending = d.1; bytes = d.0; whole = line_spelled c.args.text.now _ _ d.0 d.1; first = tt }
 
 pub returns-in_err-push-in-Some : goal.returns-in_err-push-in-Some
