@@ -1,5 +1,5 @@
 -- The three ways that a line is answered. Assumes nothing.
-use Rattle.std.proofs.Common.{◌≡◌, ℕ, List, get_or, Some, None, Option, sym, ap, ◌∙◌, arith}
+use Rattle.std.proofs.Common.{◌≡◌, ℕ, List, get_or, Some, None, Ok, Err, Option, Result, sym, ap, ◌∙◌, arith}
 use Rattle.std.proofs.lemmas.Bool.{eq-eqb, ne_eqb}
 use Rattle.lines.specs.declared.fault.Fault.{Fault}
 use Rattle.frames.specs.declared.settings.Settings.{Settings}
@@ -7,7 +7,7 @@ use Rattle.lines.specs.Hex.{Line, line_checks}
 use Rattle.posts.specs.declared.post.Post.{Post}
 use Rattle.posts.specs.Steps.{after_frame, quiet}
 use Rattle.post.specs.declared.reply.Reply.{Reply}
-use Rattle.post.specs.declared.reply.Reply.TheVariants.{Refused, Acted}
+use Rattle.post.specs.declared.reply.Reply.TheVariants.{Acted}
 use Rattle.lines.specs.declared.line.Ending.{Ending}
 use Rattle.lines.specs.Checks.{first_fault}
 use Rattle.frames.specs.FrameUnit.{frame_checks, frame_fields}
@@ -16,15 +16,15 @@ use Rattle.lines.specs.Units.{Field, Laid, unit_checks}
 use Rattle.frames.proofs.FrameLaws.{frame_laid}
 use Rattle.post.specs.Replies.{fields_of, line_fault, obeyed, reply_to}
 
-pub refuses : (o : Settings) (p : Post) (l : Line) (f : Fault) → Some f ≡ line_fault o p l → ◌≡◌ {A = Post × Reply} (p, Refused f) (reply_to o p l)
+pub refuses : (o : Settings) (p : Post) (l : Line) (f : Fault) → Some f ≡ line_fault o p l → ◌≡◌ {A = Result (Post × Reply) Fault} (Err f) (reply_to o p l)
 unfolding reply_to
 refuses o p l f e = rw (← e)
 
-pub hears : (o : Settings) (p : Post) (l : Line) → None ≡ line_fault o p l → get_or l.bytes 0 0 ≡ 1 → ◌≡◌ {A = Post × Reply} (after_frame o l.bytes p, Acted quiet) (reply_to o p l)
+pub hears : (o : Settings) (p : Post) (l : Line) → None ≡ line_fault o p l → get_or l.bytes 0 0 ≡ 1 → ◌≡◌ {A = Result (Post × Reply) Fault} (Ok (after_frame o l.bytes p, Acted quiet)) (reply_to o p l)
 unfolding reply_to
 hears o p l e b = rw (← e, eq-eqb (get_or l.bytes 0 0) 1 b)
 
-pub obeys : (o : Settings) (p : Post) (l : Line) → None ≡ line_fault o p l → (get_or l.bytes 0 0 ≡ 1 → ⊥) → obeyed o p (get_or l.bytes 2 0) ≡ reply_to o p l
+pub obeys : (o : Settings) (p : Post) (l : Line) → None ≡ line_fault o p l → (get_or l.bytes 0 0 ≡ 1 → ⊥) → Ok (obeyed o p (get_or l.bytes 2 0)) ≡ reply_to o p l
 unfolding reply_to
 obeys o p l e b = rw (← e, ne_eqb (get_or l.bytes 0 0) 1 b)
 

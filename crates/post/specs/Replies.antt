@@ -1,5 +1,5 @@
 -- What a post does with a line that comes to it: a frame is heard, an order to it is obeyed, anything else is refused. Assumes nothing.
-use Rattle.std.specs.Prelude.{ℕ, true, false, cond, List, Some, None, Option, ◌==◌, slice_index}
+use Rattle.std.specs.Prelude.{ℕ, true, false, cond, List, Some, None, Ok, Err, Option, Result, ◌==◌, slice_index}
 use Rattle.lines.specs.declared.fault.Fault.{Fault}
 use Rattle.frames.specs.declared.settings.Settings.{Settings}
 use Rattle.lines.specs.Checks.{first_fault}
@@ -10,7 +10,7 @@ use Rattle.lines.specs.Units.{Field}
 use Rattle.posts.specs.declared.post.Post.{Post}
 use Rattle.posts.specs.Steps.{tick_step, after_frame, quiet, with_button}
 use Rattle.post.specs.declared.reply.Reply.{Reply}
-use Rattle.post.specs.declared.reply.Reply.TheVariants.{Refused, Acted, Shown}
+use Rattle.post.specs.declared.reply.Reply.TheVariants.{Acted, Shown}
 
 -- the fields of the unit on a line, by its first byte: a frame, else an order
 abbrev pub fields_of : Settings → Post → List ℕ → List Field
@@ -26,13 +26,13 @@ obeyed o p what =
     (cond (what == 6) (with_button true p, Acted quiet)
     (cond (what == 7) (with_button false p, Acted quiet) (p, Shown)))
 
--- where a line has a fault the post is as it was
-abbrev pub unless_refused : Option Fault → Post → Post × Reply → Post × Reply
-unless_refused (Some f) p done = (p, Refused f)
-unless_refused None p done = done
+-- a line that has a fault is refused for it, and nothing is done
+abbrev pub unless_refused : Option Fault → Post × Reply → Result (Post × Reply) Fault
+unless_refused (Some f) done = Err f
+unless_refused None done = Ok done
 
 -- the post after a line, and what it answers: a frame is heard, an order obeyed, anything else is refused for its first fault
-unfoldable pub reply_to : Settings → Post → Line → Post × Reply
+unfoldable pub reply_to : Settings → Post → Line → Result (Post × Reply) Fault
 reply_to o p l =
-    unless_refused (line_fault o p l) p
+    unless_refused (line_fault o p l)
     (cond (slice_index l.bytes 0 == 1) (after_frame o l.bytes p, Acted quiet) (obeyed o p (slice_index l.bytes 2)))

@@ -1,33 +1,26 @@
-// A post and the lines that come to it. Assumes nothing.
+// A post and the lines that come to it. A line that is refused leaves the post as it was. Assumes nothing.
 ghost use Rattle.std.specs.Prelude.{◌≡◌, ◌≢◌, slice_index};
+ghost use Rattle.lines.specs.UnitLines.{line_in};
 ghost use Rattle.commands.specs.PostUnit.{post_what};
 ghost use Rattle.post.specs.Replies.{obeyed, reply_to};
 
 use crate::reply::Reply;
 use commands::{PostOrder, read_post_order};
-use frames::{Ending, Settings, read_frame};
+use frames::{Fault, Settings, read_frame};
+use lines::Unit;
 use posts::{Post, Told};
 
-// The first byte, or 0 where there is none.
-fn first_byte(bytes: &[u8]) -> u8
-    ensures { result ≡ slice_index bytes.now 0 }
+// A frame.
+fn hear(post: Post, settings: &Settings, unit: Unit<'_>) -> Result<(Post, Reply), Fault>
+    requires { slice_index unit.bytes.now 0 ≡ 1 }
+    ensures { result ≡ reply_to settings.now post (line_in unit) }
 {
-    if bytes.is_empty() { 0 } else { bytes[0] }
+    unit.ending.settle(read_frame(unit.bytes, settings, post.place()))?;
+    let (post, act) = post.step(Told::Frame(unit.bytes), settings);
+    Ok((post, Reply::Acted(act)))
 }
 
-// A frame on a line that ended so.
-fn hear(post: Post, settings: &Settings, ending: Ending, bytes: &[u8]) -> (Post, Reply)
-    requires { slice_index bytes.now 0 ≡ 1 }
-    ensures { result ≡ reply_to settings.now post record { bytes = bytes.now; ending = ending } }
-{
-    if let Err(fault) = ending.settle(read_frame(bytes, settings, post.place())) {
-        return (post, Reply::Refused(fault));
-    }
-    let (post, act) = post.step(Told::Frame(bytes), settings);
-    (post, Reply::Acted(act))
-}
-
-// An order to the post.
+// An order to the post that was read.
 fn obey_order(post: Post, settings: &Settings, order: PostOrder) -> (Post, Reply)
     ensures { result ≡ obeyed settings.now post (post_what order) }
 {
@@ -40,24 +33,21 @@ fn obey_order(post: Post, settings: &Settings, order: PostOrder) -> (Post, Reply
     (post, Reply::Acted(act))
 }
 
-// An order on a line that ended so.
-fn obey(post: Post, settings: &Settings, ending: Ending, bytes: &[u8]) -> (Post, Reply)
-    requires { slice_index bytes.now 0 ≢ 1 }
-    ensures { result ≡ reply_to settings.now post record { bytes = bytes.now; ending = ending } }
+// An order to the post.
+fn obey(post: Post, settings: &Settings, unit: Unit<'_>) -> Result<(Post, Reply), Fault>
+    requires { slice_index unit.bytes.now 0 ≢ 1 }
+    ensures { result ≡ reply_to settings.now post (line_in unit) }
 {
-    match ending.settle(read_post_order(bytes, post.place())) {
-        Ok(order) => obey_order(post, settings, order),
-        Err(fault) => (post, Reply::Refused(fault)),
-    }
+    let order = unit.ending.settle(read_post_order(unit.bytes, post.place()))?;
+    Ok(obey_order(post, settings, order))
 }
 
-// What the post does with a line of these bytes that ended so.
-pub fn reply(post: Post, settings: &Settings, ending: Ending, bytes: &[u8]) -> (Post, Reply)
-    ensures { result ≡ reply_to settings.now post record { bytes = bytes.now; ending = ending } }
+// The post after a line with this unit on it, and what it answers.
+pub fn reply(post: Post, settings: &Settings, unit: Unit<'_>) -> Result<(Post, Reply), Fault>
+    ensures { result ≡ reply_to settings.now post (line_in unit) }
 {
-    if first_byte(bytes) == 1 {
-        hear(post, settings, ending, bytes)
-    } else {
-        obey(post, settings, ending, bytes)
+    match unit.bytes {
+        [1, ..] => hear(post, settings, unit),
+        _ => obey(post, settings, unit),
     }
 }

@@ -7,9 +7,9 @@ mod reply;
 
 use answering::reply;
 use commands::read_place;
-use frames::{Fault, read_settings, write_line};
+use frames::{read_settings, write_line};
 use help::HELP;
-use inputs::{Stop, answer_help, next_unit_with};
+use inputs::{Stop, Units, answer_help, end};
 use posts::{Act, Memory, Post};
 use reply::Reply;
 use std::io::BufReader;
@@ -30,7 +30,6 @@ fn print_act(rt: &HostRuntime, act: Act) -> Result<(), Stop> {
 
 fn print(rt: &HostRuntime, post: Post, reply: Reply) -> Result<(), Stop> {
     match reply {
-        Reply::Refused(fault) => println!(rt; "{fault}")?,
         Reply::Acted(act) => print_act(rt, act)?,
         Reply::Shown => {
             let place = post.place();
@@ -46,36 +45,28 @@ fn run(rt: &HostRuntime) -> Result<(), Stop> {
     if answer_help(rt, &HELP)? {
         return Ok(());
     }
-    let mut input = BufReader::new(rt.alloc(), rt.stdin())?;
-    let mut lines = 0;
-    let mut text = Vec::new(rt.alloc());
-    let mut bytes = Vec::new(rt.alloc());
-    let ending = next_unit_with(&mut input, &mut text, &mut bytes, &mut lines)?.ok_or(
-        Fault::Malformed,
-    )?;
-    let settings = ending.settle(read_settings(bytes.as_slice()))?;
-    let ending = next_unit_with(&mut input, &mut text, &mut bytes, &mut lines)?.ok_or(
-        Fault::Malformed,
-    )?;
-    let place = ending.settle(read_place(bytes.as_slice(), &settings))?;
+    let heap = rt.alloc();
+    let mut units = Units::new(heap, BufReader::new(heap, rt.stdin())?);
+    let ending = units.required()?;
+    let settings = ending.settle(read_settings(units.unit(ending).bytes))?;
+    let ending = units.required()?;
+    let place = ending.settle(read_place(units.unit(ending).bytes, &settings))?;
     let mut post = Post::new(place, Memory::from_bytes([0; 16]), &settings)?;
     for _ in 0..u64::MAX {
-        let Some(ending) = next_unit_with(&mut input, &mut text, &mut bytes, &mut lines)? else {
+        let Some(ending) = units.next_unit()? else {
             break;
         };
-        let (next, answer) = reply(post, &settings, ending, bytes.as_slice());
-        post = next;
-        print(rt, post, answer)?;
+        match reply(post, &settings, units.unit(ending)) {
+            Ok((next, answer)) => {
+                post = next;
+                print(rt, post, answer)?;
+            }
+            Err(fault) => println!(rt; "{fault}")?,
+        }
     }
     Ok(())
 }
 
 fn main(rt: HostRuntime) -> ExitCode {
-    match run(&rt) {
-        Ok(()) => ExitCode::SUCCESS,
-        Err(stop) => {
-            let _ = eprintln!(rt; "post: {stop}");
-            ExitCode::FAILURE
-        }
-    }
+    end(&rt, "post", run(&rt))
 }

@@ -1,11 +1,8 @@
-// What a post answers to a line. Assumes nothing.
-use frames::Fault;
+// What a post answers to a line that isn't refused. Assumes nothing.
 use posts::Act;
 
 #[derive(Clone, Copy, PartialEq, Eq, Debug)]
 pub enum Reply {
-    // the line was refused
-    Refused(Fault),
     // it did this
     Acted(Act),
     // it shows its counts
