@@ -1,5 +1,5 @@
 // The tests of the arguments of a question about a ring.
-ghost use Rattle.std.specs.Prelude.{◌≡◌, ◌<◌, length};
+ghost use Rattle.std.specs.Prelude.{◌≡◌, ◌<◌, ◌≤◌, length, MatchOption};
 ghost use Rattle.members.specs.Answers.{answer, refused_size, refused_member, refused_ring, before};
 ghost use Rattle.members.specs.Ring.{at};
 
@@ -18,27 +18,26 @@ fn check_size(numbers: &[u16], k: u16) -> Result<(), Refusal>
     Ok(())
 }
 
-// The number of the member before `i`, which is the last one's for member 0.
-pub(crate) fn number_before(numbers: &[u16], i: usize) -> u16
-    requires { i < length numbers.now }
-    ensures { result ≡ at numbers.now (before numbers.now i) }
+// The numbers of the member before `i`, which is the last one for member 0, and of member `i`; `None` where there is no such member.
+pub(crate) fn numbers_at(numbers: &[u16], i: usize) -> Option<(u16, u16)>
+    ensures { MatchOption result (length numbers.now ≤ i) (λ p. (i < length numbers.now) × (p ≡ (at numbers.now (before numbers.now i), at numbers.now i))) }
 {
-    match i {
-        0 => numbers[numbers.len() - 1],
+    let own = *numbers.get(i)?;
+    let before = match i {
+        0 => *numbers.last()?,
         _ => numbers[i - 1],
-    }
+    };
+    Some((before, own))
 }
 
-// The numbers of the member before `i` and of member `i`.
+// The same two numbers for a question about the ring, whose size, member and numbers are tested first.
 pub(crate) fn pair_at(numbers: &[u16], k: u16, i: usize) -> Result<(u16, u16), Refusal>
     ensures { result ≡ answer (refused_member k numbers.now i) (at numbers.now (before numbers.now i), at numbers.now i) }
 {
     check_size(numbers, k)?;
-    if i >= numbers.len() {
+    let Some((before, own)) = numbers_at(numbers, i) else {
         return Err(Refusal::NoSuchMember);
-    }
-    let before = number_before(numbers, i);
-    let own = numbers[i];
+    };
     if before >= k || own >= k {
         return Err(Refusal::NumberTooLarge);
     }

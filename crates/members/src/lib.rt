@@ -13,4 +13,4 @@ pub use guard::{guard_holds, make_move, may_move, next_number, number_taken};
 pub use holders::Holders;
 pub use potential::{most_moves, most_moves_of, potential_of};
 pub use refusal::Refusal;
-pub use token::{how_many_may, moves_until, who_may};
+pub use token::{has_token, how_many_may, member_after, moves_until, who_may};

@@ -1,21 +1,32 @@
 // Who has the token: how many members may move, which, and after how many moves each has its turn.
-ghost use Rattle.std.specs.Prelude.{◌≡◌, ℕ, ◌+◌, ◌<◌, length, Some, None, MatchOption, MatchResult};
+ghost use Rattle.std.specs.Prelude.{◌≡◌, ℕ, ◌+◌, ◌<◌, ◌≤◌, length, Some, None, MatchOption, MatchResult};
 ghost use Rattle.members.specs.Answers.{answer, refused_ring, refused_whole, ring_of, Tells};
 ghost use Rattle.members.specs.Promise.{Whole};
-ghost use Rattle.members.specs.Ring.{Healed, how_many, may};
+ghost use Rattle.members.specs.Ring.{Healed, how_many, may, up};
 ghost use Rattle.members.specs.Turns.{TurnAfter, wait};
 
-use crate::checks::{check_ring, number_before};
+use crate::checks::{check_ring, numbers_at};
 use crate::guard::guard_holds;
 use crate::holders::Holders;
 use crate::refusal::Refusal;
 
-// Whether member `i` may move, in a ring of any K.
-fn holds(numbers: &[u16], i: usize) -> bool
-    requires { i < length numbers.now }
-    ensures { (k : ℕ) → result ≡ may (ring_of k numbers.now) numbers.now i }
+// Whether member `i` may move, in a ring of any K; `None` where there is no such member.
+pub fn has_token(numbers: &[u16], i: usize) -> Option<bool>
+    ensures { MatchOption result (length numbers.now ≤ i) (λ b. (i < length numbers.now) × ((k : ℕ) → b ≡ may (ring_of k numbers.now) numbers.now i)) }
 {
-    guard_holds(i, number_before(numbers, i), numbers[i])
+    let (before, own) = numbers_at(numbers, i)?;
+    Some(guard_holds(i, before, own))
+}
+
+// The member after `i` in a ring of so many, which is 0 after the last one.
+pub fn member_after(members: usize, i: usize) -> usize
+    ensures { result ≡ up members i }
+{
+    if i < members.saturating_sub(1) {
+        i + 1
+    } else {
+        0
+    }
 }
 
 // How many members may move.
@@ -23,13 +34,8 @@ pub fn how_many_may(numbers: &[u16], k: u16) -> Result<usize, Refusal>
     ensures { result ≡ answer (refused_ring k numbers.now) (how_many (ring_of k numbers.now) numbers.now (length numbers.now)) }
 {
     check_ring(numbers, k)?;
-    let mut count = 0;
-    for i in 0..numbers.len() {
-        if holds(numbers, i) {
-            count += 1;
-        }
-    }
-    Ok(count)
+    let holders = (0..numbers.len()).filter(|i| has_token(numbers, *i).unwrap_or(false));
+    Ok(holders.count())
 }
 
 // The only member that may move, or the first two.
@@ -39,14 +45,16 @@ fn find_holders(numbers: &[u16]) -> Holders
 {
     let mut first = None;
     let mut second = None;
-    'members: for i in 0..numbers.len() {
-        if holds(numbers, i) {
+    let mut before = numbers[numbers.len() - 1];
+    'members: for (i, own) in numbers.iter().enumerate() {
+        if guard_holds(i, before, *own) {
             if first.is_some() {
                 second = Some(i);
                 break 'members;
             }
             first = Some(i);
         }
+        before = *own;
     }
     match (first, second) {
         (Some(i), Some(j)) => Holders::Several(i, j),
