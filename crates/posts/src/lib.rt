@@ -6,6 +6,7 @@ mod deeds;
 mod memory;
 mod post;
 mod rule;
+mod seat;
 mod told;
 
 pub use act::Act;

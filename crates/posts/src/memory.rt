@@ -21,6 +21,7 @@ pub struct Memory {
     pub since: u32,
 }
 
+// `word` and `count` aren't written out in `from_bytes`: nothing says there that a byte of the array is below 256, so the proof didn't close.
 fn word(high: u8, low: u8) -> u16
     ensures { word_bytes result ≡ high ∷ low ∷ [] }
 {
@@ -33,61 +34,33 @@ fn count(a: u8, b: u8, c: u8, d: u8) -> u32
     u32::from_be_bytes([a, b, c, d])
 }
 
-fn word_bytes(value: u16) -> [u8; 2]
-    ensures { result ≡ word_bytes value }
-{
-    value.to_be_bytes()
-}
-
-fn count_bytes(value: u32) -> [u8; 4]
-    ensures { result ≡ count_bytes value }
-{
-    value.to_be_bytes()
-}
-
 impl Memory {
     // The memory that these bytes stand for, and the only one.
     pub fn from_bytes(bytes: [u8; 16]) -> Memory
         ensures value { memory_bytes result ≡ bytes }
         ensures only { (m : Memory) → memory_bytes m ≡ bytes → m ≡ result }
     {
-        let [
-            n1,
-            n0,
-            h1,
-            h0,
-            t1,
-            t0,
-            w1,
-            w0,
-            m3,
-            m2,
-            m1,
-            m0,
-            s3,
-            s2,
-            s1,
-            s0,
-        ] = bytes;
         Memory {
-            number: word(n1, n0),
-            heard: word(h1, h0),
-            turn: Turn { left: word(t1, t0) },
-            wait: word(w1, w0),
-            moves: count(m3, m2, m1, m0),
-            since: count(s3, s2, s1, s0),
+            number: word(bytes[0], bytes[1]),
+            heard: word(bytes[2], bytes[3]),
+            turn: Turn {
+                left: word(bytes[4], bytes[5]),
+            },
+            wait: word(bytes[6], bytes[7]),
+            moves: count(bytes[8], bytes[9], bytes[10], bytes[11]),
+            since: count(bytes[12], bytes[13], bytes[14], bytes[15]),
         }
     }
 
     pub fn to_bytes(self) -> [u8; 16]
         ensures { result ≡ memory_bytes self }
     {
-        let [n1, n0] = word_bytes(self.number);
-        let [h1, h0] = word_bytes(self.heard);
-        let [t1, t0] = word_bytes(self.turn.left);
-        let [w1, w0] = word_bytes(self.wait);
-        let [m3, m2, m1, m0] = count_bytes(self.moves);
-        let [s3, s2, s1, s0] = count_bytes(self.since);
+        let [n1, n0] = self.number.to_be_bytes();
+        let [h1, h0] = self.heard.to_be_bytes();
+        let [t1, t0] = self.turn.left.to_be_bytes();
+        let [w1, w0] = self.wait.to_be_bytes();
+        let [m3, m2, m1, m0] = self.moves.to_be_bytes();
+        let [s3, s2, s1, s0] = self.since.to_be_bytes();
         [
             n1, n0, h1, h0, t1, t0, w1, w0, m3, m2, m1, m0, s3, s2, s1, s0,
         ]

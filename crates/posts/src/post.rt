@@ -5,6 +5,7 @@ ghost use Rattle.posts.specs.Promise.{Tidied, Refreshed, CountsStay, Reaches, Se
 ghost use Rattle.posts.specs.Code.{PostLaws};
 
 use crate::rule::in_range;
+use crate::seat::Seat;
 use crate::{Act, Deeds, Memory, Told};
 use frames::{Fault, Settings, read_frame, write_frame};
 
@@ -38,18 +39,28 @@ impl Post {
         self.place
     }
 
+    // Where it stands in the ring of these settings.
+    fn seat(self, settings: &Settings) -> Seat
+        ensures { result ≡ record { k = settings.now.k; place = self.place } }
+    {
+        Seat {
+            k: settings.k,
+            place: self.place,
+        }
+    }
+
     // Whether it has the token.
     pub fn may_move(self, settings: &Settings) -> bool
         ensures { result ≡ has_token settings.now self }
     {
-        self.memory.may_move(settings.k, self.place)
+        self.memory.may_move(self.seat(settings))
     }
 
     // What it would do in a tick.
     pub fn deeds(self, settings: &Settings) -> Deeds
         ensures { result ≡ deeds_in settings.now self }
     {
-        self.memory.deeds(settings.k, self.place, self.button)
+        self.memory.deeds(self.seat(settings), self.button)
     }
 
     // The frame that it sends, which the post after it hears.
@@ -67,8 +78,9 @@ impl Post {
         ensures counts { CountsStay self.memory result.0.memory result.1.moves }
     {
         let deeds = self.deeds(settings);
-        let memory = self.memory.tick(deeds, settings.k, self.place);
+        let memory = self.memory.tick(self.seat(settings), deeds);
         let post = Post { memory, ..self };
+        // `deeds.sends.then(..)` was tried: nothing is known of the frame that its closure gives, so the proof didn't close
         let sends = if deeds.sends {
             Some(post.frame(settings))
         } else {
@@ -92,7 +104,7 @@ impl Post {
         match read_frame(bytes, settings, self.place) {
             Ok(number) => {
                 let ticks = settings.turn(self.place).unwrap_or(0);
-                let memory = self.memory.hear(number, settings.k, self.place, ticks);
+                let memory = self.memory.hear(self.seat(settings), number, ticks);
                 (Post { memory, ..self }, Act::nothing())
             }
             Err(fault) => (self, Act::refusing(fault)),
@@ -136,9 +148,7 @@ impl Post {
     pub fn ticks_to_moving(self, settings: &Settings) -> Option<u16>
         ensures { MatchOption result (Waits settings.now self) (λ n. (n ≤ 1000) × MovesAfter settings.now self n) }
     {
-        if !self.may_move(settings) {
-            return None;
-        }
-        Some(self.memory.turn.time(self.button))
+        self.may_move(settings)
+            .then(|| self.memory.turn.time(self.button))
     }
 }

@@ -2,8 +2,8 @@
 ghost use Rattle.std.specs.Prelude.{◌≡◌, ◌<◌};
 ghost use Rattle.posts.specs.Rule.{norm, may_move, deeds_of, begun, speak_if, move_if, send_if, tick_doing, heard_from};
 
+use crate::seat::Seat;
 use crate::{Deeds, Memory};
-use members::{guard_holds, number_taken};
 use turns::Turn;
 
 // The number that `number` counts as.
@@ -14,20 +14,16 @@ pub fn in_range(number: u16, k: u16) -> u16
 }
 
 impl Memory {
-    pub(crate) fn may_move(self, k: u16, place: u8) -> bool
-        ensures { result ≡ may_move k place self }
+    pub(crate) fn may_move(self, seat: Seat) -> bool
+        ensures { result ≡ may_move seat.k seat.place self }
     {
-        guard_holds(
-            usize::from(place),
-            in_range(self.heard, k),
-            in_range(self.number, k),
-        )
+        seat.guard_holds(in_range(self.heard, seat.k), in_range(self.number, seat.k))
     }
 
-    pub(crate) fn deeds(self, k: u16, place: u8, button: bool) -> Deeds
-        ensures { result ≡ deeds_of k place button self }
+    pub(crate) fn deeds(self, seat: Seat, button: bool) -> Deeds
+        ensures { result ≡ deeds_of seat.k seat.place button self }
     {
-        let may = self.may_move(k, place);
+        let may = self.may_move(seat);
         let time = self.turn.time(button);
         let moves = may && time == 0;
         Deeds {
@@ -61,14 +57,14 @@ impl Memory {
         }
     }
 
-    fn move_if(self, moves: bool, k: u16, place: u8) -> Memory
-        ensures { result ≡ move_if moves k place self }
+    fn move_if(self, moves: bool, seat: Seat) -> Memory
+        ensures { result ≡ move_if moves seat.k seat.place self }
     {
         if !moves {
             return self;
         }
         Memory {
-            number: number_taken(usize::from(place), self.heard, self.number, k),
+            number: seat.number_taken(self.heard, self.number),
             turn: Turn::over(),
             moves: self.moves.saturating_add(1),
             since: 0,
@@ -88,22 +84,22 @@ impl Memory {
     }
 
     // A tick in which it does `deeds`.
-    pub(crate) fn tick(self, deeds: Deeds, k: u16, place: u8) -> Memory
-        ensures { result ≡ tick_doing k place deeds self }
+    pub(crate) fn tick(self, seat: Seat, deeds: Deeds) -> Memory
+        ensures { result ≡ tick_doing seat.k seat.place deeds self }
     {
-        self.begin(k)
+        self.begin(seat.k)
             .speak_if(deeds.speaks)
-            .move_if(deeds.moves, k, place)
+            .move_if(deeds.moves, seat)
             .send_if(deeds.sends)
     }
 
     // Hears `number` from the post before; a turn is set to `ticks`.
-    pub(crate) fn hear(self, number: u16, k: u16, place: u8, ticks: u16) -> Memory
-        ensures { result ≡ heard_from k place ticks number self }
+    pub(crate) fn hear(self, seat: Seat, number: u16, ticks: u16) -> Memory
+        ensures { result ≡ heard_from seat.k seat.place ticks number self }
     {
-        let own = in_range(self.number, k);
-        let had = self.may_move(k, place);
-        let has = guard_holds(usize::from(place), number, own);
+        let own = in_range(self.number, seat.k);
+        let had = self.may_move(seat);
+        let has = seat.guard_holds(number, own);
         Memory {
             number: own,
             heard: number,

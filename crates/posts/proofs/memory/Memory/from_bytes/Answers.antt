@@ -8,10 +8,4 @@ pub returns : goal.returns
 returns c =
     let bs = c.args.bytes in
     let e = fill_by_all (λ i. get_or bs i 0) bs 16 0 (omega arith) (λ k h. refl) in
-    let n = c.word.ensures in
-    let h = c.word-2.ensures in
-    let t = c.word-3.ensures in
-    let w = c.word-4.ensures in
-    let k = c.count.ensures in
-    let s = c.count-2.ensures in
     record { value = cc; only = λ m f. memory_only m _ (f ∙ cc) }

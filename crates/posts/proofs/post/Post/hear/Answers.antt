@@ -1,6 +1,8 @@
 -- The number that the reader gives is the one in the frame.
 use Rattle.std.proofs.Common.{◌≡◌, unwrap_or, ap, ◌∙◌}
+use Rattle.posts.specs.Rule.{heard_from}
 use Rattle.posts.specs.Steps.{turn_set}
+use Rattle.posts.specs.declared.seat.Seat.{Seat}
 use Rattle.posts.proofs.Hearing.{heard_frame}
 use Rattle.posts.proofs.post.Post.hear.Goals as goal
 
@@ -10,5 +12,6 @@ returns-in-Ok c =
     let p = c.args.self in
     let read = c.in-Ok.ensures in
     let set : c.unwrap_or-ticks.result ≡ turn_set s p.place = c.unwrap_or-ticks.ensures ∙ ap (λ o. unwrap_or o 0) c.turn.ensures in
-    let h = heard_frame s c.args.bytes.now p _ _ _ _ _ _ read.fault read.value.0 read.value.1 set c.hear-memory.ensures c.nothing.ensures in
+    let heard = c.hear-memory.ensures ∙ ap (λ (t : Seat). heard_from t.k t.place c.unwrap_or-ticks.result c.in-Ok.number p.memory) c.seat.ensures in
+    let h = heard_frame s c.args.bytes.now p _ _ _ _ _ _ read.fault read.value.0 read.value.1 set heard c.nothing.ensures in
     record { value = h.value; refreshed = h.refreshed; again = h.again }
