@@ -1,10 +1,10 @@
-// What a post does at one thing that it is told. Assumes nothing.
+// What a post does at one thing that it is told. `Act::default()` is nothing. Assumes nothing.
 ghost use Rattle.std.specs.Prelude.{◌≡◌};
-ghost use Rattle.posts.specs.Steps.{quiet, refusal};
+ghost use Rattle.posts.specs.Steps.{refusal};
 
 use frames::Fault;
 
-#[derive(Clone, Copy, PartialEq, Eq, Debug)]
+#[derive(Clone, Copy, PartialEq, Eq, Debug, Default)]
 pub struct Act {
     pub speaks: bool,
     pub moves: bool,
@@ -15,23 +15,12 @@ pub struct Act {
 }
 
 impl Act {
-    pub(crate) fn nothing() -> Act
-        ensures { result ≡ quiet }
-    {
-        Act {
-            speaks: false,
-            moves: false,
-            sends: None,
-            refuses: None,
-        }
-    }
-
     pub(crate) fn refusing(fault: Fault) -> Act
         ensures { result ≡ refusal fault }
     {
         Act {
             refuses: Some(fault),
-            ..Act::nothing()
+            ..Act::default()
         }
     }
 }

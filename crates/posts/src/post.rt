@@ -105,7 +105,7 @@ impl Post {
             Ok(number) => {
                 let ticks = settings.turn(self.place).unwrap_or(0);
                 let memory = self.memory.hear(self.seat(settings), number, ticks);
-                (Post { memory, ..self }, Act::nothing())
+                (Post { memory, ..self }, Act::default())
             }
             Err(fault) => (self, Act::refusing(fault)),
         }
@@ -119,7 +119,7 @@ impl Post {
             button: down,
             ..self
         };
-        (post, Act::nothing())
+        (post, Act::default())
     }
 
     // What it does with what it is told. Its counts change nothing of it, now or later.
