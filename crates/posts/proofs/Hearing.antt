@@ -1,6 +1,6 @@
 -- Hearing a frame: the number in it, and what the memory is after it. Assumes nothing.
-use Rattle.std.proofs.Common.{◌≡◌, ℕ, ◌<◌, ◌≤◌, Bool, true, false, ltb, List, Some, None, Option, sym, refl, ap, ◌∙◌, inl, inr, arith, MatchOption}
-use Rattle.std.proofs.lemmas.Bool.{cases_Bool, true≢false, false≢true}
+use Rattle.std.proofs.Common.{◌≡◌, ℕ, ◌<◌, ◌≤◌, Bool, true, false, ltb, List, None, sym, refl, ap, ◌∙◌, inl, inr, arith, MatchOption}
+use Rattle.std.proofs.lemmas.Bool.{cases_Bool}
 use Rattle.members.specs.Answers.{may_by}
 use Rattle.lines.specs.declared.fault.Fault.{Fault}
 use Rattle.frames.specs.declared.settings.Settings.{Settings}
@@ -30,14 +30,10 @@ turn_set_short : (s : Settings) (p : ℕ) → turn_set s p ≤ 1000
 turn_set_short s p = elim (cases_Bool (ltb p s.posts)) [ inl e ↦ rw e (s.short p) | inr e ↦ rw e (omega arith) ]
 
 set_anew : (had has : Bool) (ticks : ℕ) (t : Turn) → had ≡ false → has ≡ true → ticks ≤ 1000 → (after_hearing had has ticks t).left ≤ 1000
-set_anew true has ticks t e f l = absurd (true≢false e)
-set_anew false true ticks t e f l = l
-set_anew false false ticks t e f l = absurd (false≢true f)
+set_anew had has ticks t e f l = rw (e, f) l
 
 set_or_kept : (had has : Bool) (ticks : ℕ) (t : Turn) → ticks ≤ 1000 → t.left ≤ 1000 → (after_hearing had has ticks t).left ≤ 1000
-set_or_kept true has ticks t l m = m
-set_or_kept false true ticks t l m = l
-set_or_kept false false ticks t l m = m
+set_or_kept had has ticks t l m = grind arith
 
 hear_refreshes : (k p ticks x : ℕ) (m : Memory) → x < k → ticks ≤ 1000 → Refreshed k p m (heard_from k p ticks x m)
 hear_refreshes k p ticks x m h l =
@@ -65,10 +61,6 @@ heard_twice k p ticks x m h =
     ap (λ (t : Turn). record { number = norm k (number_in k m); heard = x; turn = t; wait = m.wait; moves = m.moves; since = m.since }) turn
     ∙ ap (λ n. record { number = n; heard = x; turn = after.turn; wait = m.wait; moves = m.moves; since = m.since }) number
 
-unrefused : (o : Option Fault) (P : Type 0) (Q : Fault → Type 0) → o ≡ None → P → MatchOption o P Q
-unrefused None P Q e h = h
-unrefused (Some f) P Q e h = absurd (let z : ◌≡◌ {A = ℕ} 0 1 = cc in omega arith)
-
 -- a frame that the reader accepts is heard, and heard again it changes nothing
 pub record HeardFrame (s : Settings) (bytes : List ℕ) (p : Post) (m : Memory) (a : Act) (Q : Fault → Type 0) : Type 0 where
   pub value : (with_memory m p, a) ≡ hear_step s bytes p
@@ -86,9 +78,7 @@ heard_frame s bytes p sender x ticks m a Q none below framed set heard does =
     ap (heard_from k p.place (turn_set s p.place) x) first ∙ (heard_twice k p.place (turn_set s p.place) x p.memory below ∙ sym first) in
     record {
       value = rw (does, first) (hear_heard s bytes p x none carried);
-      refreshed =
-          unrefused a.refuses _ Q (ap (λ (b : Act). b.refuses) does)
-          (rw first (hear_refreshes k p.place (turn_set s p.place) x p.memory below (turn_set_short s p.place)));
+      refreshed = rw (does, first) (hear_refreshes k p.place (turn_set s p.place) x p.memory below (turn_set_short s p.place));
       again = sym (hear_heard s bytes (with_memory m p) x none carried) ∙ (ap (λ n. (with_memory n p, quiet)) second ∙ ap (λ b. (with_memory m p, b)) (sym does));
     }
 

@@ -1,6 +1,6 @@
 -- The steps of a post as those of ring members: post p is member 3 p, and what it heard is the number of the member before.
 -- Assumes nothing.
-use Rattle.std.proofs.Common.{◌≡◌, ℕ, zero, suc, ◌+◌, ◌*◌, ◌<◌, Bool, true, false, cond, not, eqb, sym, refl, ap, ◌∙◌, arith}
+use Rattle.std.proofs.Common.{◌≡◌, ℕ, zero, suc, ◌+◌, ◌*◌, ◌<◌, Bool, cond, not, eqb, sym, refl, ap, ◌∙◌, arith}
 use Rattle.std.proofs.lemmas.Bool.Decides.{nat_tests}
 use Rattle.members.specs.Answers.{may_by, next_by}
 use Rattle.members.specs.Ring.{State, at, may, next}
@@ -8,7 +8,7 @@ use Rattle.posts.specs.declared.deeds.Deeds.{Deeds}
 use Rattle.posts.specs.declared.memory.Memory.{Memory}
 use Rattle.posts.specs.Code.{ring_of, heard_of}
 use Rattle.posts.specs.Rule.{norm, number_in, heard_in, tick_doing}
-use Rattle.posts.proofs.Norms.{norm_below, norm_is}
+use Rattle.posts.proofs.Norms.{norm_below}
 
 -- the guard and the next number of member 3 p are post p's
 triple : (p : ℕ) → 3 * suc p ≡ suc (3 * p + 2)
@@ -25,12 +25,10 @@ next_of n k zero s = refl
 next_of n k (suc p) s = ap (next (ring_of n k) s) (triple p)
 
 next_below : (k p heard number : ℕ) → heard < k → next_by k p heard number < k
-next_below k zero heard number h = grind (arith, nat_tests)
-next_below k (suc p) heard number h = h
+next_below k p heard number h = grind (arith, nat_tests)
 
 norm_either : (k : ℕ) (b : Bool) (x y : ℕ) → x < k → y < k → norm k (cond b x y) ≡ cond b x y
-norm_either k true x y h l = norm_is k x h
-norm_either k false x y h l = norm_is k y l
+norm_either k b x y h l = grind (arith, nat_tests)
 
 -- the number after a tick, whatever is done in it
 pub tick_number : (k p : ℕ) (d : Deeds) (m : Memory) → 0 < k →

@@ -1,6 +1,6 @@
 -- Runs of ticks: when a post sends, and when it moves. Assumes nothing.
 use Rattle.std.proofs.Common.{◌≡◌, ℕ, zero, suc, ◌-◌, ◌<◌, ◌≤◌, min, Bool, true, false, cond, ◌&&◌, ◌||◌, eqb, ltb, List, [], ◌∷◌, is_some, Some, None, Option, refl, ap, ◌∙◌, inl, inr, arith}
-use Rattle.std.proofs.lemmas.Bool.{and_left, cases_Bool, eqb-false, false≢true, true≢false}
+use Rattle.std.proofs.lemmas.Bool.{and_left, cases_Bool}
 use Rattle.std.proofs.lemmas.Bool.Decides.{nat_tests}
 use Rattle.lines.specs.declared.fault.Fault.{Fault}
 use Rattle.frames.specs.declared.settings.Settings.{Settings}
@@ -27,16 +27,13 @@ hear_sends (Some f) s bs p acts = refl
 
 -- in a tick a post sends, or one tick fewer is left to sending
 sent : (b : Bool) (bytes : List ℕ) (rest : Bool) → b ≡ true → (is_some (cond b (Some bytes) None) || rest) ≡ true
-sent true bytes rest e = refl
-sent false bytes rest e = absurd (false≢true e)
+sent b bytes rest e = rw e
 
 unsent : (b : Bool) (bytes : List ℕ) (rest : Bool) → b ≡ false → (is_some (cond b (Some bytes) None) || rest) ≡ rest
-unsent true bytes rest e = absurd (true≢false e)
-unsent false bytes rest e = refl
+unsent b bytes rest e = rw e
 
 one_fewer : (moves : Bool) (w : ℕ) → (moves || eqb w 0) ≡ false → suc (min (cond (moves || eqb w 0) 3 (min w 3 - 1)) 3) ≡ min w 3
-one_fewer true w e = absurd (true≢false e)
-one_fewer false w e = let h = eqb-false w 0 e in rw e (omega arith)
+one_fewer moves w e = grind (arith, nat_tests)
 
 pub sends_within : (p : Post) (s : Settings) (es : List Event) → suc (min p.memory.wait 3) ≤ ticks_in es → any_sends (acts_in s es p) ≡ true
 sends_within p s [] l = absurd (omega arith)
@@ -58,8 +55,7 @@ sends_within p s (up ∷ es) l = sends_within _ s es l
 -- a post that doesn't move has or lacks the token as before
 same_guard : (k p heard number taken : ℕ) (moves : Bool) → moves ≡ false →
     may_by p (norm k (norm k heard)) (norm k (cond moves taken (norm k number))) ≡ may_by p (norm k heard) (norm k number)
-same_guard k p heard number taken true e = absurd (true≢false e)
-same_guard k p heard number taken false e = rw (norm_norm k heard, norm_norm k number)
+same_guard k p heard number taken moves e = rw (e, norm_norm k heard, norm_norm k number)
 
 token_stays : (s : Settings) (p : Post) → (deeds_in s p).moves ≡ false → has_token s (after_tick s p) ≡ has_token s p
 token_stays s p e = same_guard s.k p.place p.memory.heard p.memory.number _ (deeds_in s p).moves e
@@ -69,17 +65,14 @@ moves_at_none : (may : Bool) (time : ℕ) → may ≡ true → time ≡ 0 → (m
 moves_at_none may time h e = grind (arith, nat_tests)
 
 still_at_some : (may : Bool) (time n : ℕ) → time ≡ suc n → (may && eqb time 0) ≡ false
-still_at_some true time n e = grind (arith, nat_tests)
-still_at_some false time n e = refl
+still_at_some may time n e = grind (arith, nat_tests)
 
 speaks_at_some : (may : Bool) (time n : ℕ) → may ≡ true → time ≡ suc n → (may && ltb 0 time) ≡ true
 speaks_at_some may time n h e = grind (arith, nat_tests)
 
 less_time : (button : Bool) (t : Turn) (n : ℕ) (moves speaks : Bool) → moves ≡ false → speaks ≡ true → time_to_speak button t ≡ suc n →
     time_to_speak button (cond moves (lasting 0) (cond speaks (spoken_once t) t)) ≡ n
-less_time button t n true speaks e f h = absurd (true≢false e)
-less_time button t n false false e f h = absurd (false≢true f)
-less_time button t n false true e f h = grind (arith, nat_tests)
+less_time button t n moves speaks e f h = rw (e, f) (grind (arith, nat_tests))
 
 first_and_rest : (P : ℕ → Type 0) (n : ℕ) → P 0 → ((i : ℕ) → i < n → P (suc i)) → (i : ℕ) → i < suc n → P i
 first_and_rest P n h f zero l = h
