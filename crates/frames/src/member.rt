@@ -1,24 +1,39 @@
 // The names of members in text. Assumes nothing.
-ghost use Rattle.std.specs.Prelude.{Some};
-ghost use Rattle.frames.specs.MemberNames.{name_of};
+ghost use Rattle.std.specs.Prelude.{◌≡◌, Some};
+ghost use Rattle.frames.specs.MemberNames.{name_of, place_of};
 
 use std::fmt;
 
-// A member by its place in the ring: a post, the frame on its line, or the line's end.
+// A member of the ring: a post, the frame on its line, or the line's end.
 #[derive(Clone, Copy, PartialEq, Eq, Debug)]
-pub struct Member {
-    pub place: usize,
+pub enum Member {
+    Post(usize),
+    Frame(usize),
+    End(usize),
+}
+
+// The member at a place in the ring.
+impl From<usize> for Member {
+    ghost from_gives = { λ place m. place_of m ≡ place };
+
+    fn from(place: usize) -> Member {
+        let post = place / 3;
+        match place % 3 {
+            0 => Member::Post(post),
+            1 => Member::Frame(post),
+            _ => Member::End(post),
+        }
+    }
 }
 
 impl fmt::Display for Member {
-    ghost output = { λ m. Some (name_of m.place) };
+    ghost output = { λ m. Some (name_of (place_of m)) };
 
     fn fmt<W: fmt::Write>(&self, f: &mut fmt::Formatter<W>) -> fmt::Result {
-        let post = self.place / 3;
-        match self.place % 3 {
-            0 => write!(f, "post {post}"),
-            1 => write!(f, "frame {post}"),
-            _ => write!(f, "end {post}"),
+        match self {
+            Member::Post(post) => write!(f, "post {post}"),
+            Member::Frame(post) => write!(f, "frame {post}"),
+            Member::End(post) => write!(f, "end {post}"),
         }
     }
 }
