@@ -6,6 +6,7 @@ ghost use Rattle.lines.specs.Checks.{first_fault, IsFirstFault};
 ghost use Rattle.frames.specs.FrameUnit.{frame_bytes, frame_checks, sender_of, ReadsAllSent};
 
 use crate::Settings;
+use crate::word::read_word;
 use lines::Fault;
 use sums::checksum;
 
@@ -41,13 +42,7 @@ pub fn read_frame(bytes: &[u8], settings: &Settings, listener: u8) -> Result<u16
     ensures complete { ReadsAllSent settings.now.posts settings.now.k listener bytes.now result }
     ensures caught { Caught bytes.now (is_ok result) }
 {
-    let [kind, rest @ ..] = bytes else {
-        return Err(Fault::Malformed);
-    };
-    if *kind != KIND {
-        return Err(Fault::Malformed);
-    }
-    let [post, rest @ ..] = rest else {
+    let [KIND, post, rest @ ..] = bytes else {
         return Err(Fault::Malformed);
     };
     if *post >= settings.posts {
@@ -56,17 +51,12 @@ pub fn read_frame(bytes: &[u8], settings: &Settings, listener: u8) -> Result<u16
     if *post != settings.sender(listener) {
         return Err(Fault::WrongSender);
     }
-    let [high, low, rest @ ..] = rest else {
-        return Err(Fault::Malformed);
-    };
-    let number = u16::from_be_bytes([*high, *low]);
+    let (number, rest) = read_word(rest)?;
     if number >= settings.k {
         return Err(Fault::NumberTooLarge);
     }
-    let [sum_high, sum_low, rest @ ..] = rest else {
-        return Err(Fault::Malformed);
-    };
-    if u16::from_be_bytes([*sum_high, *sum_low]) != checksum(&[KIND, *post, *high, *low]) {
+    let (sum, rest) = read_word(rest)?;
+    if sum != checksum(&bytes[..4]) {
         return Err(Fault::WrongSum);
     }
     if rest.is_empty() {

@@ -7,6 +7,7 @@ ghost use Rattle.lines.specs.Words.{words_bytes};
 ghost use Rattle.frames.specs.SettingsUnit.{turn_fields, settings_checks, settings_bytes, turn_of, AcceptsAll};
 
 use crate::Settings;
+use crate::word::read_word;
 use lines::{Fault, read_words};
 
 // The first byte of settings.
@@ -30,11 +31,7 @@ impl Settings {
     pub fn turn(&self, post: u8) -> Option<u16>
         ensures { result ≡ turn_of self.now post }
     {
-        if post < self.posts {
-            Some(self.turns[usize::from(post)])
-        } else {
-            None
-        }
+        (post < self.posts).then(|| self.turns[usize::from(post)])
     }
 }
 
@@ -63,22 +60,13 @@ pub fn read_settings(bytes: &[u8]) -> Result<Settings, Fault>
     ensures value { IfOk result (λ s. settings_bytes s ≡ bytes.now) }
     ensures complete { AcceptsAll bytes.now (result_err result) }
 {
-    let [kind, rest @ ..] = bytes else {
+    let [KIND, posts, rest @ ..] = bytes else {
         return Err(Fault::Malformed);
     };
-    if *kind != KIND {
-        return Err(Fault::Malformed);
-    }
-    let [posts, rest @ ..] = rest else {
-        return Err(Fault::Malformed);
-    };
-    if *posts < FEWEST_POSTS || *posts > MOST_POSTS {
+    if !(FEWEST_POSTS..=MOST_POSTS).contains(posts) {
         return Err(Fault::OutOfRange);
     }
-    let [high, low, rest @ ..] = rest else {
-        return Err(Fault::Malformed);
-    };
-    let k = u16::from_be_bytes([*high, *low]);
+    let (k, rest) = read_word(rest)?;
     if k < 3 * u16::from(*posts) {
         return Err(Fault::OutOfRange);
     }
