@@ -30,7 +30,8 @@ fn held_near(numbers: &[u16], j: usize) -> usize
 
 // Gives member `j` another number, and says how many may move then, of which there were `holders`: the guards of two members only can change.
 fn shift(numbers: &mut [u16], j: usize, value: u16, holders: usize) -> usize
-    requires { (Counted numbers.old holders) × (j < length numbers.old) }
+    requires counted { Counted numbers.old holders }
+    requires there { j < length numbers.old }
     ensures after { numbers.new ≡ slice_set numbers.old j value }
     ensures value { (k : ℕ) → result ≡ how_many (ring_of k numbers.old) (slice_set numbers.old j value) (length numbers.old) }
 {
@@ -65,7 +66,9 @@ impl Tally {
 
     // Gives member `j` the number `value`, and counts a move where that is another one.
     pub(crate) fn note(&mut self, numbers: &mut [u16], j: usize, value: u16)
-        requires { (Counted numbers.old self.old.holders) × ((j < length numbers.old) × (self.old.moves + 1 < 2 ^ 64)) }
+        requires counted { Counted numbers.old self.old.holders }
+        requires there { j < length numbers.old }
+        requires room { self.old.moves + 1 < 2 ^ 64 }
         ensures after { numbers.new ≡ slice_set numbers.old j value }
         ensures value { (k : ℕ) → self.new ≡ noted (ring_of k numbers.old) numbers.old (slice_set numbers.old j value) self.old }
     {
@@ -78,7 +81,8 @@ impl Tally {
 
     // Gives member `j` the number `value` by a disturbance, from which counting begins anew.
     pub(crate) fn disturb(&mut self, numbers: &mut [u16], j: usize, value: u16)
-        requires { (Counted numbers.old self.old.holders) × (j < length numbers.old) }
+        requires counted { Counted numbers.old self.old.holders }
+        requires there { j < length numbers.old }
         ensures after { numbers.new ≡ slice_set numbers.old j value }
         ensures value { (k : ℕ) → self.new ≡ anew (ring_of k numbers.old) (slice_set numbers.old j value) }
     {

@@ -22,7 +22,9 @@ pub(crate) fn play_tick(
     tally: &mut Tally,
     i: usize,
 )
-    requires { (Kept settings.now record { posts = posts.old; lines = lines.old } numbers.old tally.old) × ((i < settings.now.posts) × (tally.old.moves + 2 < 2 ^ 64)) }
+    requires kept { Kept settings.now record { posts = posts.old; lines = lines.old } numbers.old tally.old }
+    requires there { i < settings.now.posts }
+    requires room { tally.old.moves + 2 < 2 ^ 64 }
     ensures posts { posts.new ≡ (tick_of settings.now i record { posts = posts.old; lines = lines.old }).posts }
     ensures lines { lines.new ≡ (tick_of settings.now i record { posts = posts.old; lines = lines.old }).lines }
     ensures numbers { numbers.new ≡ state_in settings.now (tick_of settings.now i record { posts = posts.old; lines = lines.old }) }
@@ -62,7 +64,9 @@ pub(crate) fn play_hear(
     tally: &mut Tally,
     i: usize,
 )
-    requires { (Kept settings.now record { posts = posts.old; lines = lines.now } numbers.old tally.old) × ((i < settings.now.posts) × (tally.old.moves + 1 < 2 ^ 64)) }
+    requires kept { Kept settings.now record { posts = posts.old; lines = lines.now } numbers.old tally.old }
+    requires there { i < settings.now.posts }
+    requires room { tally.old.moves + 1 < 2 ^ 64 }
     ensures posts { posts.new ≡ (hear_of settings.now i record { posts = posts.old; lines = lines.now }).posts }
     ensures numbers { numbers.new ≡ state_in settings.now (hear_of settings.now i record { posts = posts.old; lines = lines.now }) }
     ensures tally { tally.new ≡ tallied settings.now (hear i) record { posts = posts.old; lines = lines.now } tally.old }
@@ -105,7 +109,10 @@ pub(crate) fn disturb_memory(
     i: usize,
     memory: Memory,
 )
-    requires { (Counted numbers.old tally.old.holders) × ((length numbers.old ≡ 3 * settings.now.posts) × ((length posts.old ≡ settings.now.posts) × (i < settings.now.posts))) }
+    requires counted { Counted numbers.old tally.old.holders }
+    requires count_of_numbers { length numbers.old ≡ 3 * settings.now.posts }
+    requires count_of_posts { length posts.old ≡ settings.now.posts }
+    requires there { i < settings.now.posts }
     ensures posts { posts.new ≡ slice_set posts.old i (with_memory memory (slice_index_or posts.old i nobody)) }
     ensures numbers { numbers.new ≡ memory_numbers settings.now.posts settings.now.k i memory numbers.old }
     ensures tally { tally.new ≡ anew (ring_of_settings settings.now) numbers.new }
@@ -134,7 +141,10 @@ pub(crate) fn disturb_frame(
     i: usize,
     frame: [u8; 6],
 )
-    requires { (Counted numbers.old tally.old.holders) × ((length numbers.old ≡ 3 * settings.now.posts) × ((length lines.old ≡ settings.now.posts) × (i < settings.now.posts))) }
+    requires counted { Counted numbers.old tally.old.holders }
+    requires count_of_numbers { length numbers.old ≡ 3 * settings.now.posts }
+    requires line_count { length lines.old ≡ settings.now.posts }
+    requires there { i < settings.now.posts }
     ensures lines { lines.new ≡ set lines.old i record { frame = frame; lost = false } }
     ensures numbers { numbers.new ≡ frame_numbers settings.now.k i frame numbers.old }
     ensures tally { tally.new ≡ anew (ring_of_settings settings.now) numbers.new }

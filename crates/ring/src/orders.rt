@@ -21,7 +21,10 @@ pub(crate) fn obey(
     i: usize,
     order: Order,
 )
-    requires { (Sound settings.now record { posts = posts.old; lines = lines.old } tally.old) × ((numbers.old ≡ state_in settings.now record { posts = posts.old; lines = lines.old }) × ((i < settings.now.posts) × (tally.old.moves + 2 < 2 ^ 64))) }
+    requires sound { Sound settings.now record { posts = posts.old; lines = lines.old } tally.old }
+    requires same { numbers.old ≡ state_in settings.now record { posts = posts.old; lines = lines.old } }
+    requires there { i < settings.now.posts }
+    requires room { tally.old.moves + 2 < 2 ^ 64 }
     ensures holds { Holds settings.now (obeyed settings.now i order record { machine = record { posts = posts.old; lines = lines.old }; tally = tally.old }).machine posts.new lines.new numbers.new }
     ensures tally { tally.new ≡ (obeyed settings.now i order record { machine = record { posts = posts.old; lines = lines.old }; tally = tally.old }).tally }
 {

@@ -28,7 +28,9 @@ impl Report {
         ending: Ending,
         line: u64,
     ) -> Result<(), AllocError>
-        requires { (Sound settings.now record { posts = posts.old; lines = lines.old } self.old.tally) × ((numbers.old ≡ state_in settings.now record { posts = posts.old; lines = lines.old }) × (self.old.tally.moves + 2 < 2 ^ 64)) }
+        requires sound { Sound settings.now record { posts = posts.old; lines = lines.old } self.old.tally }
+        requires same { numbers.old ≡ state_in settings.now record { posts = posts.old; lines = lines.old } }
+        requires room { self.old.tally.moves + 2 < 2 ^ 64 }
         ensures holds { MatchResult result (λ _. Holds settings.now (stage_of_line settings.now record { bytes = bytes.now; ending = ending } record { machine = record { posts = posts.old; lines = lines.old }; tally = self.old.tally }).machine posts.new lines.new numbers.new) (λ _. Holds settings.now record { posts = posts.old; lines = lines.old } posts.new lines.new numbers.new) }
         ensures tally { OnOk result (self.new.tally ≡ (stage_of_line settings.now record { bytes = bytes.now; ending = ending } record { machine = record { posts = posts.old; lines = lines.old }; tally = self.old.tally }).tally) }
         ensures says { OnOk result (Adds self.old self.new (says_of_line settings.now line record { bytes = bytes.now; ending = ending } record { posts = posts.old; lines = lines.old })) }

@@ -17,17 +17,16 @@ use posts::{Post, in_range};
 fn all_seated(posts: &[Post]) -> bool
     ensures { MatchBool result (Seated posts.now) (Seated posts.now → ⊥) }
 {
-    for (i, post) in posts.iter().enumerate() {
-        if usize::from(post.place()) != i {
-            return false;
-        }
-    }
-    true
+    posts
+        .iter()
+        .enumerate()
+        .all(|(i, post)| usize::from(post.place()) == i)
 }
 
 // The number of member `j`.
 fn member_number(settings: &Settings, posts: &[Post], lines: &[Line], j: usize) -> u16
-    requires { (Whole settings.now.posts record { posts = posts.now; lines = lines.now }) × (j < 3 * settings.now.posts) }
+    requires whole { Whole settings.now.posts record { posts = posts.now; lines = lines.now } }
+    requires there { j < 3 * settings.now.posts }
     ensures { result ≡ member_of settings.now.posts (numbers_of settings.now record { posts = posts.now; lines = lines.now }) j }
 {
     let i = j / 3;
@@ -44,11 +43,12 @@ fn member_number(settings: &Settings, posts: &[Post], lines: &[Line], j: usize) 
 
 // Writes the numbers of all members over whatever stood there.
 fn write_numbers(settings: &Settings, posts: &[Post], lines: &[Line], numbers: &mut [u16])
-    requires { (Whole settings.now.posts record { posts = posts.now; lines = lines.now }) × (length numbers.old ≡ 3 * settings.now.posts) }
+    requires whole { Whole settings.now.posts record { posts = posts.now; lines = lines.now } }
+    requires count_of_numbers { length numbers.old ≡ 3 * settings.now.posts }
     ensures { numbers.new ≡ state_in settings.now record { posts = posts.now; lines = lines.now } }
 {
-    for j in 0..numbers.len() {
-        numbers[j] = member_number(settings, posts, lines, j);
+    for (j, number) in numbers.iter_mut().enumerate() {
+        *number = member_number(settings, posts, lines, j);
     }
 }
 

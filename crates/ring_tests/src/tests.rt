@@ -141,53 +141,43 @@ fn numbers_and_tally(rt: HostRuntime) -> Result<(), Fail> {
 const SPEAKING: &[u8] =
     b"03 01 06\n03 00 01\n03 01 02\n03 01 08\n03 01 01\n03 01 01\n03 01 08\n03 01 01\n03 01 08\n03 02 01\nzz\n\n03 00 09 # unknown\n03 01\n";
 
-const SAID: [Said; 7] = [
-    Said::Shown {
+// A show of post 1.
+fn shown(
+    heap: Global,
+    numbers: [u16; 6],
+    speakers: [bool; 2],
+    moves: u32,
+    since: u32,
+) -> Result<Said, Fail> {
+    Ok(Said::Shown {
         post: 1,
-        moves: 0,
-        since: 0,
-    },
-    Said::Shown {
-        post: 1,
-        moves: 0,
-        since: 2,
-    },
-    Said::Shown {
-        post: 1,
-        moves: 1,
-        since: 0,
-    },
-    Said::Refused {
-        line: 10,
-        fault: Fault::OutOfRange,
-    },
-    Said::Refused {
-        line: 11,
-        fault: Fault::Malformed,
-    },
-    Said::Refused {
-        line: 13,
-        fault: Fault::Malformed,
-    },
-    Said::Refused {
-        line: 14,
-        fault: Fault::Malformed,
-    },
-];
+        numbers: numbers.to_vec(heap)?,
+        speakers: speakers.to_vec(heap)?,
+        moves,
+        since,
+    })
+}
+
+// A line that was refused.
+fn refused(line: u64, fault: Fault) -> Said {
+    Said::Refused { line, fault }
+}
 
 #[test]
 fn shows_and_refused_lines(rt: HostRuntime) -> Result<(), Fail> {
+    let heap = rt.alloc();
     let mut numbers = [7; 6];
-    let report = played(rt.alloc(), SPEAKING, &mut numbers)?;
-    assert_eq!(rt; report.said.as_slice(), SAID.as_slice());
-    assert_eq!(rt;
-        report.numbers.as_slice(),
-        [1, 1, 1, 0, 0, 0, 1, 1, 1, 0, 0, 0, 1, 1, 1, 1, 1, 0].as_slice()
-    );
-    assert_eq!(rt;
-        report.speakers.as_slice(),
-        [false, true, false, false, false, false].as_slice()
-    );
+    let report = played(heap, SPEAKING, &mut numbers)?;
+    let said = [
+        shown(heap, [1, 1, 1, 0, 0, 0], [false, true], 0, 0)?,
+        shown(heap, [1, 1, 1, 0, 0, 0], [false, false], 0, 2)?,
+        shown(heap, [1, 1, 1, 1, 1, 0], [false, false], 1, 0)?,
+        refused(10, Fault::OutOfRange),
+        refused(11, Fault::Malformed),
+        refused(13, Fault::Malformed),
+        refused(14, Fault::Malformed),
+    ];
+    assert_eq!(rt; report.said.as_slice(), said.as_slice());
     Ok(())
 }
 

@@ -85,42 +85,31 @@ impl Printer {
         Ok(())
     }
 
-    // Prints what was said of one line, and gives back the numbers and speakers of the shows after it.
-    fn print_said<'a, W: Write>(
-        self,
-        out: &mut W,
-        said: Said,
-        numbers: &'a [u16],
-        speakers: &'a [bool],
-    ) -> Result<(&'a [u16], &'a [bool]), Stop> {
+    // Prints what was said of one line.
+    fn print_said<W: Write>(self, out: &mut W, said: &Said) -> Result<(), Stop> {
         match said {
-            Said::Shown { post, moves, since } => {
-                let (shown, numbers) = numbers.split_at(self.settings.members().min(numbers.len()));
-                let (speaking, speakers) = speakers.split_at(usize::from(self.settings.posts).min(
-                    speakers.len(),
-                ));
-                self.print_show(out, shown, speaking)?;
+            Said::Shown {
+                post,
+                numbers,
+                speakers,
+                moves,
+                since,
+            } => {
+                self.print_show(out, numbers, speakers)?;
                 writeln!(out, "; post {post}: {moves} goings on, {since} ticks since")?;
-                Ok((numbers, speakers))
             }
             Said::Refused { line, fault } => {
                 let line = line.saturating_add(self.lines_before);
                 writeln!(out, "line {line}: {fault}")?;
-                Ok((numbers, speakers))
             }
         }
+        Ok(())
     }
 
     pub fn print(self, rt: &HostRuntime, report: &Report) -> Result<(), Stop> {
         let mut out = BufWriter::new(rt.alloc(), rt.stdout())?;
-        let mut numbers = report.numbers.as_slice();
-        let mut speakers = report.speakers.as_slice();
-        for said in report.said.iter() {
-            let (later_numbers, later_speakers) = self.print_said(
-                &mut out, *said, numbers, speakers,
-            )?;
-            numbers = later_numbers;
-            speakers = later_speakers;
+        for said in &report.said {
+            self.print_said(&mut out, said)?;
         }
         self.print_summary(&mut out, report)?;
         out.flush()?;

@@ -5,7 +5,7 @@ use Rattle.ring.proofs.TickLaws.{ring_same}
 use Rattle.ring.proofs.machine.disturb_frame.Goals as goal
 
 pub disturb-requires : goal.disturb-requires
-disturb-requires c = (c.requires.0, omega (arith, c.requires.1.0, c.requires.1.1.1))
+disturb-requires c = record { counted = c.requires.counted; there = omega (arith, c.requires.count_of_numbers, c.requires.there) }
 
 pub returns : goal.returns
 returns c =
@@ -14,5 +14,5 @@ returns c =
     record {
       lines = refl;
       numbers = e ∙ ap (set c.args.numbers.now (3 * c.args.i + 1)) c.number_on.ensures;
-      tally = c.disturb.ensures.value o.k ∙ anew_ap (ring_same o c.args.numbers.now c.requires.1.0) (sym e);
+      tally = c.disturb.ensures.value o.k ∙ anew_ap (ring_same o c.args.numbers.now c.requires.count_of_numbers) (sym e);
     }

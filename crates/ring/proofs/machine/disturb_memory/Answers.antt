@@ -6,17 +6,18 @@ use Rattle.ring.proofs.TickLaws.{ring_same}
 use Rattle.ring.proofs.machine.disturb_memory.Goals as goal
 
 pub disturb-requires : goal.disturb-requires
-disturb-requires c = (c.requires.0, omega (arith, c.requires.1.0, c.requires.1.1.1))
+disturb-requires c = record { counted = c.requires.counted; there = omega (arith, c.requires.count_of_numbers, c.requires.there) }
 
 pub disturb-requires-2 : goal.disturb-requires-2
 disturb-requires-2 c =
     let s = c.args.numbers.now in
     let a = c.disturb.ensures.after in
     let v = c.in_range.result in
-    let n = length-set s (3 * c.args.i) v in (
-      subst (λ t. Counted t c.disturb.new.self.holders) (sym a) (anew_kept s (3 * c.args.i) v c.disturb.new.self c.requires.0.big c.disturb.ensures.value),
-      omega (arith, ap length a, n, c.requires.1.0, c.post_before-before.ensures.below),
-    )
+    let n = length-set s (3 * c.args.i) v in
+    record {
+      counted = subst (λ t. Counted t c.disturb.new.self.holders) (sym a) (anew_kept s (3 * c.args.i) v c.disturb.new.self c.requires.counted.big c.disturb.ensures.value);
+      there = omega (arith, ap length a, n, c.requires.count_of_numbers, c.post_before-before.ensures.below);
+    }
 
 pub returns : goal.returns
 returns c =
@@ -24,7 +25,7 @@ returns c =
     let s = c.args.numbers.now in
     let a = c.disturb.ensures.after in
     let e = c.disturb-2.ensures.after in
-    let n : length c.disturb.new.numbers ≡ 3 * o.posts = ap length a ∙ (length-set s (3 * c.args.i) c.in_range.result ∙ c.requires.1.0) in
+    let n : length c.disturb.new.numbers ≡ 3 * o.posts = ap length a ∙ (length-set s (3 * c.args.i) c.in_range.result ∙ c.requires.count_of_numbers) in
     record {
       posts = refl;
       numbers = e ∙ cc (a, c.in_range.ensures, c.in_range-2.ensures, c.post_before-before.ensures.value);

@@ -16,14 +16,14 @@ pub returns-then-line : goal.returns-then-line
 returns-then-line c =
     let o = c.args.settings.now in
     let m : Machine = record { posts = c.args.posts.now; lines = c.args.lines.now } in
-    let h = c.requires.0 in
+    let h = c.requires.kept in
     let i = c.args.i in
     let b = subst (λ p. (line_at m p).lost ≡ true) c.post_before-before.ensures.value c.if-line.true in
-    let e : hear_of o i m ≡ m = same_after_lost o m h.whole i c.requires.1.0 b in
+    let e : hear_of o i m ≡ m = same_after_lost o m h.whole i c.requires.there b in
     record {
       posts = sym (ap (λ (x : Machine). x.posts) e);
       numbers = h.same ∙ sym (ap (state_in o) e);
-      tally = quiet_tally o m h.whole i c.requires.1.0 c.args.tally.now e;
+      tally = quiet_tally o m h.whole i c.requires.there c.args.tally.now e;
     }
 
 pub note-requires : goal.note-requires
@@ -32,23 +32,23 @@ note-requires c =
     let m : Machine = record { posts = c.args.posts.now; lines = c.args.lines.now } in
     let s = c.args.numbers.now in
     let y = c.args.tally.now in
-    let h = c.requires.0 in
-    (kept_numbers o m s y h, (omega (arith, kept_length o m s y h, c.post_before-before.ensures.below), c.requires.1.1))
+    let h = c.requires.kept in
+    record { counted = kept_numbers o m s y h; there = omega (arith, kept_length o m s y h, c.post_before-before.ensures.below); room = c.requires.room }
 
 pub returns-in-Some : goal.returns-in-Some
 returns-in-Some c =
     let o = c.args.settings.now in
     let m : Machine = record { posts = c.args.posts.now; lines = c.args.lines.now } in
-    let h = c.requires.0 in
+    let h = c.requires.kept in
     let i = c.args.i in
     let q = c.post_before-before.ensures.value in
     let b = subst (λ p. (line_at m p).lost ≡ false) q c.if-line.false in
     let v = c.hear.ensures.value ∙ ap (λ p. hear_step o (line_at m p).frame (post_at m i)) q in
-    let e : hear_of o i m ≡ m = same_after_refused o m h.whole i c.requires.1.0 c.in-Some.field-0 (sym (ap (λ z. z.1.refuses) v) ∙ c.in-Some.is) in
+    let e : hear_of o i m ≡ m = same_after_refused o m h.whole i c.requires.there c.in-Some.field-0 (sym (ap (λ z. z.1.refuses) v) ∙ c.in-Some.is) in
     record {
-      posts = ap (λ z. set c.args.posts.now i z.0) v ∙ sym (ap (λ (x : Machine). x.posts) (machine_heard o m h.whole i c.requires.1.0 b));
+      posts = ap (λ z. set c.args.posts.now i z.0) v ∙ sym (ap (λ (x : Machine). x.posts) (machine_heard o m h.whole i c.requires.there b));
       numbers = h.same ∙ sym (ap (state_in o) e);
-      tally = quiet_tally o m h.whole i c.requires.1.0 c.args.tally.now e;
+      tally = quiet_tally o m h.whole i c.requires.there c.args.tally.now e;
     }
 
 pub returns-in-None : goal.returns-in-None
@@ -57,7 +57,7 @@ returns-in-None c =
     let m : Machine = record { posts = c.args.posts.now; lines = c.args.lines.now } in
     let s = c.args.numbers.now in
     let y = c.args.tally.now in
-    let h = c.requires.0 in
+    let h = c.requires.kept in
     let i = c.args.i in
     let x = c.hear.result.0.memory.heard in
     let q = c.post_before-before.ensures.value in
@@ -68,7 +68,7 @@ returns-in-None c =
     let e = accepted_heard f o _ (post_at m i) a ∙ sym (ap (λ z. z.0.memory.heard) v) in
     let z : x < o.k = (subst (λ z. MatchOption z (Refreshed o.k (post_at m i).place (post_at m i).memory c.hear.result.0.memory) (λ _. c.hear.result.0 ≡ post_at m i)) c.in-None.is c.hear.ensures.refreshed).heard_below in
     record {
-      posts = ap (λ z. set c.args.posts.now i z.0) v ∙ sym (ap (λ (x : Machine). x.posts) (machine_heard o m h.whole i c.requires.1.0 b));
-      numbers = c.note.ensures.after ∙ (ap (λ j. set s (3 * j + 2) x) q ∙ (ap (λ t. set t (end_before o.posts i) x) h.same ∙ sym (heard_state o m h.whole i c.requires.1.0 x b a e z)));
-      tally = c.note.ensures.value o.k ∙ (ap (λ j. noted (ring_of o.k s) s (set s (3 * j + 2) x) y) q ∙ heard_tally o m h.whole i c.requires.1.0 x b a e z s y h.same);
+      posts = ap (λ z. set c.args.posts.now i z.0) v ∙ sym (ap (λ (x : Machine). x.posts) (machine_heard o m h.whole i c.requires.there b));
+      numbers = c.note.ensures.after ∙ (ap (λ j. set s (3 * j + 2) x) q ∙ (ap (λ t. set t (end_before o.posts i) x) h.same ∙ sym (heard_state o m h.whole i c.requires.there x b a e z)));
+      tally = c.note.ensures.value o.k ∙ (ap (λ j. noted (ring_of o.k s) s (set s (3 * j + 2) x) y) q ∙ heard_tally o m h.whole i c.requires.there x b a e z s y h.same);
     }

@@ -21,36 +21,37 @@ pub note-requires : goal.note-requires
 note-requires c =
     let o = c.args.settings.now in
     let m : Machine = record { posts = c.args.posts.now; lines = c.args.lines.now } in
-    let h = c.requires.0 in (
-      kept_numbers o m c.args.numbers.now c.args.tally.now h,
-      (omega (arith, kept_length o m c.args.numbers.now c.args.tally.now h, c.requires.1.0), omega (arith, c.requires.1.1)),
-    )
+    let h = c.requires.kept in
+    record {
+      counted = kept_numbers o m c.args.numbers.now c.args.tally.now h;
+      there = omega (arith, kept_length o m c.args.numbers.now c.args.tally.now h, c.requires.there);
+      room = omega (arith, c.requires.room);
+    }
 
 pub note-requires-in-Some : goal.note-requires-in-Some
 note-requires-in-Some c =
     let o = c.args.settings.now in
     let m : Machine = record { posts = c.args.posts.now; lines = c.args.lines.now } in
     let s = c.args.numbers.now in
-    let h = c.requires.0 in
+    let h = c.requires.kept in
     let i = c.args.i in
     let v = c.tick.result.0.memory.number in
     let n = kept_length o m s c.args.tally.now h in
     let a = c.note.ensures.after in
     let y = c.note.ensures.value in
-    let k = noted_kept s (3 * i) v c.args.tally.now c.note.new.self (kept_numbers o m s c.args.tally.now h) (omega (arith, n, c.requires.1.0)) y in (
-      subst (λ t. Counted t c.note.new.self.holders) (sym a) k,
-      (
-        omega (arith, ap length a, length-set s (3 * i) v, n, c.requires.1.0),
-        omega (arith, ap (λ z. z.moves) (y 0), noted_moves (ring_of 0 s) s (set s (3 * i) v) c.args.tally.now, c.requires.1.1),
-      ),
-    )
+    let k = noted_kept s (3 * i) v c.args.tally.now c.note.new.self (kept_numbers o m s c.args.tally.now h) (omega (arith, n, c.requires.there)) y in
+    record {
+      counted = subst (λ t. Counted t c.note.new.self.holders) (sym a) k;
+      there = omega (arith, ap length a, length-set s (3 * i) v, n, c.requires.there);
+      room = omega (arith, ap (λ z. z.moves) (y 0), noted_moves (ring_of 0 s) s (set s (3 * i) v) c.args.tally.now, c.requires.room);
+    }
 
 pub returns-in-Some : goal.returns-in-Some
 returns-in-Some c =
     let o = c.args.settings.now in
     let m : Machine = record { posts = c.args.posts.now; lines = c.args.lines.now } in
     let s = c.args.numbers.now in
-    let h = c.requires.0 in
+    let h = c.requires.kept in
     let i = c.args.i in
     let v = c.tick.result.0.memory.number in
     let e = sym (ap (λ z. z.0.memory.number) c.tick.ensures.value) in
@@ -60,11 +61,11 @@ returns-in-Some c =
     record {
       posts = ap (λ z. set c.args.posts.now i z.0) c.tick.ensures.value;
       lines = sym (ap (λ z. set c.args.lines.now i (sent_on z (line_at m i))) q);
-      numbers = c.note-in-Some.ensures.after ∙ (ap (λ t. set t (3 * i + 1) v) a ∙ state_sent o m h.whole i c.requires.1.0 s h.same v e c.args.tally.now b);
+      numbers = c.note-in-Some.ensures.after ∙ (ap (λ t. set t (3 * i + 1) v) a ∙ state_sent o m h.whole i c.requires.there s h.same v e c.args.tally.now b);
       tally =
           c.note-in-Some.ensures.value o.k ∙
           (noted_ap (ring_set o.k s (3 * i) v c.note.new.numbers a) a (ap (λ t. set t (3 * i + 1) v) a) (c.note.ensures.value o.k) ∙
-          tally_sent o m h.whole i c.requires.1.0 s h.same v e c.args.tally.now b);
+          tally_sent o m h.whole i c.requires.there s h.same v e c.args.tally.now b);
     }
 
 pub returns-in-None : goal.returns-in-None
@@ -72,7 +73,7 @@ returns-in-None c =
     let o = c.args.settings.now in
     let m : Machine = record { posts = c.args.posts.now; lines = c.args.lines.now } in
     let s = c.args.numbers.now in
-    let h = c.requires.0 in
+    let h = c.requires.kept in
     let i = c.args.i in
     let v = c.tick.result.0.memory.number in
     let e = sym (ap (λ z. z.0.memory.number) c.tick.ensures.value) in
@@ -81,6 +82,6 @@ returns-in-None c =
     record {
       posts = ap (λ z. set c.args.posts.now i z.0) c.tick.ensures.value;
       lines = sym (ap (λ z. set c.args.lines.now i (sent_on z (line_at m i))) q ∙ set-get_or c.args.lines.now i unused);
-      numbers = c.note.ensures.after ∙ state_silent o m h.whole i c.requires.1.0 s h.same v e c.args.tally.now b;
-      tally = c.note.ensures.value o.k ∙ tally_silent o m h.whole i c.requires.1.0 s h.same v e c.args.tally.now b;
+      numbers = c.note.ensures.after ∙ state_silent o m h.whole i c.requires.there s h.same v e c.args.tally.now b;
+      tally = c.note.ensures.value o.k ∙ tally_silent o m h.whole i c.requires.there s h.same v e c.args.tally.now b;
     }

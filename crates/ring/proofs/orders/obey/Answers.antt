@@ -40,14 +40,14 @@ disturbable o m s y h e = let k = sound_kept o m s y h e in (kept_numbers o m s 
 pub disturb_memory-requires : goal.disturb_memory-requires
 disturb_memory-requires c =
     let x = stage c.args.posts.now c.args.lines.now c.args.tally.now in
-    let d = disturbable c.args.settings.now x.machine c.args.numbers.now x.tally c.requires.0 c.requires.1.0 in
-    (d.0, (d.1, (c.requires.0.whole.count_of_posts, c.requires.1.1.0)))
+    let d = disturbable c.args.settings.now x.machine c.args.numbers.now x.tally c.requires.sound c.requires.same in
+    record { counted = d.0; count_of_numbers = d.1; count_of_posts = c.requires.sound.whole.count_of_posts; there = c.requires.there }
 
 pub disturb_frame-requires : goal.disturb_frame-requires
 disturb_frame-requires c =
     let x = stage c.args.posts.now c.args.lines.now c.args.tally.now in
-    let d = disturbable c.args.settings.now x.machine c.args.numbers.now x.tally c.requires.0 c.requires.1.0 in
-    (d.0, (d.1, (c.requires.0.whole.line_count, c.requires.1.1.0)))
+    let d = disturbable c.args.settings.now x.machine c.args.numbers.now x.tally c.requires.sound c.requires.same in
+    record { counted = d.0; count_of_numbers = d.1; line_count = c.requires.sound.whole.line_count; there = c.requires.there }
 
 pub returns-in-Tick : goal.returns-in-Tick
 unfolding obeyed step
@@ -71,7 +71,7 @@ unfolding obeyed step tallied
 returns-in-Lose c =
     let o = c.args.settings.now in
     let x = stage c.args.posts.now c.args.lines.now c.args.tally.now in
-    let n = c.requires.1.0 ∙ sym (ap (state_of o.posts) (lose_numbers o x.machine c.requires.0.whole c.args.i c.requires.1.1.0)) in
+    let n = c.requires.same ∙ sym (ap (state_of o.posts) (lose_numbers o x.machine c.requires.sound.whole c.args.i c.requires.there)) in
     let p = left o c.args.i x c.in-Lose.is (record { posts = refl; lines = c.lose.ensures; numbers = n }) refl in
     record { holds = p.0; tally = p.1 }
 
@@ -85,7 +85,7 @@ returns-in-Memory c =
     let v = c.from_bytes-memory.result in
     let b = memory_back v c.in-Memory.bytes c.from_bytes-memory.ensures.value in
     let e = c.disturb_memory.ensures in
-    let n = e.numbers ∙ (ap (memory_numbers o.posts o.k i v) c.requires.1.0 ∙ (sym (memory_state o m c.requires.0.whole i c.requires.1.1.0 v) ∙ ap (λ z. state_in o (memory_becomes i z m)) b)) in
+    let n = e.numbers ∙ (ap (memory_numbers o.posts o.k i v) c.requires.same ∙ (sym (memory_state o m c.requires.sound.whole i c.requires.there v) ∙ ap (λ z. state_in o (memory_becomes i z m)) b)) in
     let p = left o i x c.in-Memory.is (record { posts = e.posts ∙ ap (λ z. set m.posts i (with_memory z (post_at m i))) b; lines = refl; numbers = n }) (e.tally ∙ anew_ap refl n) in
     record { holds = p.0; tally = p.1 }
 
@@ -96,7 +96,7 @@ returns-in-Frame c =
     let i = c.args.i in
     let x = stage c.args.posts.now c.args.lines.now c.args.tally.now in
     let e = c.disturb_frame.ensures in
-    let n = e.numbers ∙ (ap (frame_numbers o.k i c.in-Frame.frame) c.requires.1.0 ∙ sym (frame_state o x.machine c.requires.0.whole i c.requires.1.1.0 c.in-Frame.frame)) in
+    let n = e.numbers ∙ (ap (frame_numbers o.k i c.in-Frame.frame) c.requires.same ∙ sym (frame_state o x.machine c.requires.sound.whole i c.requires.there c.in-Frame.frame)) in
     let p = left o i x c.in-Frame.is (record { posts = refl; lines = e.lines; numbers = n }) (e.tally ∙ anew_ap refl n) in
     record { holds = p.0; tally = p.1 }
 
@@ -105,7 +105,7 @@ unfolding obeyed step tallied
 returns-in-ButtonDown c =
     let o = c.args.settings.now in
     let x = stage c.args.posts.now c.args.lines.now c.args.tally.now in
-    let n = c.requires.1.0 ∙ sym (ap (state_of o.posts) (button_numbers o x.machine c.requires.0.whole c.args.i c.requires.1.1.0 true)) in
+    let n = c.requires.same ∙ sym (ap (state_of o.posts) (button_numbers o x.machine c.requires.sound.whole c.args.i c.requires.there true)) in
     let p = left o c.args.i x c.in-ButtonDown.is (record { posts = c.press.ensures; lines = refl; numbers = n }) refl in
     record { holds = p.0; tally = p.1 }
 
@@ -114,7 +114,7 @@ unfolding obeyed step tallied
 returns-in-ButtonUp c =
     let o = c.args.settings.now in
     let x = stage c.args.posts.now c.args.lines.now c.args.tally.now in
-    let n = c.requires.1.0 ∙ sym (ap (state_of o.posts) (button_numbers o x.machine c.requires.0.whole c.args.i c.requires.1.1.0 false)) in
+    let n = c.requires.same ∙ sym (ap (state_of o.posts) (button_numbers o x.machine c.requires.sound.whole c.args.i c.requires.there false)) in
     let p = left o c.args.i x c.in-ButtonUp.is (record { posts = c.press-in-ButtonUp.ensures; lines = refl; numbers = n }) refl in
     record { holds = p.0; tally = p.1 }
 
@@ -122,5 +122,5 @@ pub returns-in-Show : goal.returns-in-Show
 unfolding obeyed
 returns-in-Show c =
     let x = stage c.args.posts.now c.args.lines.now c.args.tally.now in
-    let p = left c.args.settings.now c.args.i x c.in-Show.is (record { posts = refl; lines = refl; numbers = c.requires.1.0 }) refl in
+    let p = left c.args.settings.now c.args.i x c.in-Show.is (record { posts = refl; lines = refl; numbers = c.requires.same }) refl in
     record { holds = p.0; tally = p.1 }

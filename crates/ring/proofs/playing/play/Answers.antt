@@ -1,5 +1,5 @@
 -- Each line is one step more; at the end all lines were played.
-use Rattle.std.proofs.Common.{◌≡◌, ◌+◌, ◌∷◌, length, Err, vec_items, sym, refl, ap, ◌∙◌, subst, arith, MatchOption}
+use Rattle.std.proofs.Common.{◌≡◌, ◌+◌, ◌∷◌, length, map, Err, vec_items, sym, refl, ap, ◌∙◌, subst, arith, MatchOption}
 use Rattle.std.proofs.lemmas.List.{take_rest}
 use Rattle.std.proofs.lemmas.Result.{err_from_is_err_and}
 use Rattle.std.proofs.lemmas.Bool.{eqb-true}
@@ -9,7 +9,7 @@ use Rattle.lines.proofs.ThreeLaws.{three_long}
 use Rattle.lines.proofs.TextLaws.{some_left, lines_first, after_shorter}
 use Rattle.ring.specs.Machine.{Machine}
 use Rattle.ring.specs.Plays.{Stage, stage_of_line, says_of_line}
-use Rattle.ring.specs.Reports.{Adds, Holds, Outcome}
+use Rattle.ring.specs.Reports.{Adds, Holds, Outcome, saying_of}
 use Rattle.ring.proofs.PlayLaws.{line_is, stage_read, says_read}
 use Rattle.ring.proofs.Examples.{examples}
 use Rattle.ring.proofs.Going.{progress}
@@ -43,7 +43,7 @@ loop-rest-init c =
     let h = c.in_ok-tally.ensures in
     let r = c.new-report.ensures in
     midplay_none o c.args.script.now m c.start.new.numbers c.new-report.result (fitting_whole o m.posts m.lines c.args.numbers.now h.fits) h.numbers (r.tally ∙ h.tally)
-    (record { said = r.said; numbers = r.numbers; speakers = r.speakers })
+    (ap (map saying_of) r.said)
 
 pub returns-in_err-play_line : goal.returns-in_err-play_line
 returns-in_err-play_line c =

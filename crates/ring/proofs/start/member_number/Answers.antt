@@ -15,16 +15,16 @@ unfolding member_of
 returns-in-0 c =
     let o = c.args.settings.now in
     let m : Machine = record { posts = c.args.posts.now; lines = c.args.lines.now } in
-    let l : c.args.j / 3 < o.posts = omega (arith, c.requires.1) in
-    rw c.in-0.is (c.in_range.ensures ∙ sym (numbers_own o o.posts m c.requires.0 (c.args.j / 3) l))
+    let l : c.args.j / 3 < o.posts = omega (arith, c.requires.there) in
+    rw c.in-0.is (c.in_range.ensures ∙ sym (numbers_own o o.posts m c.requires.whole (c.args.j / 3) l))
 
 pub returns-in-1 : goal.returns-in-1
 unfolding member_of
 returns-in-1 c =
     let o = c.args.settings.now in
     let m : Machine = record { posts = c.args.posts.now; lines = c.args.lines.now } in
-    let l : c.args.j / 3 < o.posts = omega (arith, c.requires.1) in
-    rw c.in-1.is (c.number_on.ensures ∙ sym (numbers_sent o o.posts m c.requires.0 (c.args.j / 3) l))
+    let l : c.args.j / 3 < o.posts = omega (arith, c.requires.there) in
+    rw c.in-1.is (c.number_on.ensures ∙ sym (numbers_sent o o.posts m c.requires.whole (c.args.j / 3) l))
 
 -- the post after post i
 next_is : (n i : ℕ) (x : ℕ) → ((x ≡ i + 1) × (i + 1 < n)) ⊎ ((x ≡ 0) × (n ≤ i + 1)) → x ≡ up n i
@@ -37,12 +37,12 @@ returns-after-i-posts c =
     let o = c.args.settings.now in
     let m : Machine = record { posts = c.args.posts.now; lines = c.args.lines.now } in
     let i = c.args.j / 3 in
-    let l : i < o.posts = omega (arith, c.requires.1) in
+    let l : i < o.posts = omega (arith, c.requires.there) in
     let p : c.args.j % 3 ≡ 2 = omega arith in
-    let q = c.requires.0.count_of_posts in
+    let q = c.requires.whole.count_of_posts in
     let e : c.if-i-posts.next ≡ up o.posts i = next_is o.posts i c.if-i-posts.next
     (elim c.if-i-posts.branch [
       | then-i-posts w ↦ inl (w.next-is, omega (arith, w.if-i-posts.true))
       | else-i-posts w ↦ inr (w.next-is, omega (arith, w.if-i-posts.false))
     ]) in
-    rw p (c.in_range-in_default.ensures ∙ (ap (λ x. heard_in o.k (post_at m x).memory) e ∙ sym (numbers_heard o o.posts m c.requires.0 (up o.posts i) (up_below o.posts i (omega arith)))))
+    rw p (c.in_range-in_default.ensures ∙ (ap (λ x. heard_in o.k (post_at m x).memory) e ∙ sym (numbers_heard o o.posts m c.requires.whole (up o.posts i) (up_below o.posts i (omega arith)))))

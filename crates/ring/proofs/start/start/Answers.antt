@@ -9,7 +9,7 @@ pub write_numbers-requires : goal.write_numbers-requires
 write_numbers-requires c =
     let o = c.args.settings.now in
     let f = fitting o c.args.posts.now c.args.lines.now c.args.numbers.now c.from-count.result c.from-count.ensures c.if-posts-count.false c.if-lines-count.false c.if-numbers-count.false c.if-not-all_seated.ensures in
-    (fitting_whole o c.args.posts.now c.args.lines.now c.args.numbers.now f, f.count_of_numbers)
+    record { whole = fitting_whole o c.args.posts.now c.args.lines.now c.args.numbers.now f; count_of_numbers = f.count_of_numbers }
 
 pub unreachable-requires : goal.unreachable-requires
 unreachable-requires c =

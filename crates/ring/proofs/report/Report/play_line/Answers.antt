@@ -22,10 +22,10 @@ returns-then-is_blank c =
     let b = sym c.is_blank.ensures ∙ c.if-is_blank.true in
     let e = blank_stage o k x n b in
     record {
-      holds = subst (λ z. Holds o z.machine m.posts m.lines c.args.numbers.now) (sym e) (record { posts = refl; lines = refl; numbers = c.requires.1.0 });
+      holds = subst (λ z. Holds o z.machine m.posts m.lines c.args.numbers.now) (sym e) (record { posts = refl; lines = refl; numbers = c.requires.same });
       tally = sym (ap (λ (z : Stage). z.tally) e);
       says = subst (Adds c.args.self.now c.args.self.now) (sym (blank_says o k x n b)) (adds_none c.args.self.now);
-      sound = c.requires.0;
+      sound = c.requires.sound;
       moves = omega arith;
     }
 
@@ -42,11 +42,11 @@ returns-in-Err c =
     let y = c.refuse.ensures.tally in
     record {
       holds = whichever c.refuse.result
-          (subst (λ z. Holds o z.machine m.posts m.lines c.args.numbers.now) (sym e) (record { posts = refl; lines = refl; numbers = c.requires.1.0 }))
-          (record { posts = refl; lines = refl; numbers = c.requires.1.0 });
+          (subst (λ z. Holds o z.machine m.posts m.lines c.args.numbers.now) (sym e) (record { posts = refl; lines = refl; numbers = c.requires.same }))
+          (record { posts = refl; lines = refl; numbers = c.requires.same });
       tally = always_made c.refuse.result (y ∙ sym (ap (λ (z : Stage). z.tally) e));
       says = subst (λ z. IfOk c.refuse.result (λ _. Adds c.args.self.now c.refuse.new.self z)) (sym (refused_says o k x n b c.in-Err.fault g)) c.refuse.ensures.says;
-      sound = always_made c.refuse.result (subst (Sound o m) (sym y) c.requires.0);
+      sound = always_made c.refuse.result (subst (Sound o m) (sym y) c.requires.sound);
       moves = always_made c.refuse.result (omega (arith, ap (λ (t : Tally). t.moves) y));
     }
 
@@ -55,14 +55,14 @@ obey-requires c =
     let o = c.args.settings.now in
     let k : Line = record { bytes = c.args.bytes.now; ending = c.args.ending } in
     let d = order_found o k c.read_order.result c.settle.result c.read_order.ensures.fault c.settle.ensures.fault c.settle.ensures.value c.read_order.ensures.value c.read_order.ensures.below c.in-Ok.command c.in-Ok.is in
-    (c.requires.0, (c.requires.1.0, (subst (λ i. i < o.posts) (sym c.from-post.ensures) d.below, c.requires.1.1)))
+    record { sound = c.requires.sound; same = c.requires.same; there = subst (λ i. i < o.posts) (sym c.from-post.ensures) d.below; room = c.requires.room }
 
 pub show-requires : goal.show-requires
 show-requires c =
     let o = c.args.settings.now in
     let k : Line = record { bytes = c.args.bytes.now; ending = c.args.ending } in
     let d = order_found o k c.read_order.result c.settle.result c.read_order.ensures.fault c.settle.ensures.fault c.settle.ensures.value c.read_order.ensures.value c.read_order.ensures.below c.in-Ok.command c.in-Ok.is in
-    subst (λ i. c.in-Ok.command.post < i) (sym c.requires.0.whole.count_of_posts) d.below
+    subst (λ i. c.in-Ok.command.post < i) (sym c.requires.sound.whole.count_of_posts) d.below
 
 -- what a show says, where the numbers are the machine's
 shown_so : {X E L : Type 0} (A P : L → Type 0) (r : Result X E) (ls : L) → IfOk r (λ _. (l : L) → A l → P l) → A ls → IfOk r (λ _. P ls)
@@ -84,11 +84,11 @@ returns-in-Show c =
     let y = c.show.ensures.tally in
     record {
       holds = whichever c.show.result
-          (subst (λ z. Holds o z.machine m.posts m.lines c.args.numbers.now) (sym e) (record { posts = refl; lines = refl; numbers = c.requires.1.0 }))
-          (record { posts = refl; lines = refl; numbers = c.requires.1.0 });
+          (subst (λ z. Holds o z.machine m.posts m.lines c.args.numbers.now) (sym e) (record { posts = refl; lines = refl; numbers = c.requires.same }))
+          (record { posts = refl; lines = refl; numbers = c.requires.same });
       tally = always_made c.show.result (y ∙ sym (ap (λ (z : Stage). z.tally) e));
-      says = subst (λ z. IfOk c.show.result (λ _. Adds c.args.self.now c.show.new.self z)) (sym t) (shown_so (λ ls. c.args.numbers.now ≡ state_in o (record { posts = m.posts; lines = ls })) (λ ls. Adds c.args.self.now c.show.new.self (show o c.in-Ok.command.post (record { posts = m.posts; lines = ls }) ∷ [])) c.show.result m.lines c.show.ensures.says c.requires.1.0);
-      sound = always_made c.show.result (subst (Sound o m) (sym y) c.requires.0);
+      says = subst (λ z. IfOk c.show.result (λ _. Adds c.args.self.now c.show.new.self z)) (sym t) (shown_so (λ ls. c.args.numbers.now ≡ state_in o (record { posts = m.posts; lines = ls })) (λ ls. Adds c.args.self.now c.show.new.self (show o c.in-Ok.command.post (record { posts = m.posts; lines = ls }) ∷ [])) c.show.result m.lines c.show.ensures.says c.requires.same);
+      sound = always_made c.show.result (subst (Sound o m) (sym y) c.requires.sound);
       moves = always_made c.show.result (omega (arith, ap (λ (t : Tally). t.moves) y));
     }
 
@@ -107,13 +107,12 @@ returns-in_default c =
     let t : says_of_line o n k m ≡ [] = order_says o k x n b c.in-Ok.command d.faultless d.written ∙ quiet_order o p c.in-Ok.command.order m c.in_default.not-Show in
     let h = c.obey.ensures.holds in
     let y = c.obey.ensures.tally in
-    let g = sound_obeyed o c.from-post.result c.in-Ok.command.order x c.requires.0 (subst (λ i. i < o.posts) (sym c.from-post.ensures) d.below) in
+    let g = sound_obeyed o c.from-post.result c.in-Ok.command.order x c.requires.sound (subst (λ i. i < o.posts) (sym c.from-post.ensures) d.below) in
     let r = c.args.self.now in
-    let a = adds_none r in
     record {
       holds = subst (λ z. Holds o z.machine c.obey.new.posts c.obey.new.lines c.obey.new.numbers) (sym e) h;
       tally = y ∙ sym (ap (λ (z : Stage). z.tally) e);
-      says = subst (Adds r (record { said = r.said; numbers = r.numbers; speakers = r.speakers; tally = c.obey.new.tally })) (sym t) (record { said = a.said; numbers = a.numbers; speakers = a.speakers });
+      says = subst (Adds r (record { said = r.said; tally = c.obey.new.tally })) (sym t) (adds_none r);
       sound = holds_sound o (obeyed o c.from-post.result c.in-Ok.command.order x).machine c.obey.new.posts c.obey.new.lines c.obey.new.numbers c.obey.new.tally (obeyed o c.from-post.result c.in-Ok.command.order x).tally h y g;
       moves = omega (arith, ap (λ (z : Tally). z.moves) y, obeyed_moves o c.from-post.result c.in-Ok.command.order x);
     }

@@ -11,7 +11,7 @@ returns-then-numbers-j c =
     let s = c.args.numbers.now in
     record {
       after = sym (ap (set s c.args.j) (sym c.if-numbers-j.true) ∙ set-get_or s c.args.j 0);
-      value = λ k. sym (noted_same (ring_of k s) s c.args.j c.args.value c.args.self.now c.requires.1.0 c.if-numbers-j.true);
+      value = λ k. sym (noted_same (ring_of k s) s c.args.j c.args.value c.args.self.now c.requires.there c.if-numbers-j.true);
     }
 
 pub returns : goal.returns
@@ -20,5 +20,5 @@ returns c =
     record {
       after = c.shift-holders.ensures.after;
       value = λ k. c.add_move.ensures ∙ (ap (λ h. one_more h c.args.self.now) (c.shift-holders.ensures.value k) ∙
-          sym (noted_other (ring_of k s) s c.args.j c.args.value c.args.self.now c.requires.1.0 c.if-numbers-j.false));
+          sym (noted_other (ring_of k s) s c.args.j c.args.value c.args.self.now c.requires.there c.if-numbers-j.false));
     }
