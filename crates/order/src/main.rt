@@ -5,9 +5,9 @@ mod help;
 mod telling;
 mod tidings;
 
-use frames::{Fault, Member, read_numbers, read_settings};
+use frames::{Member, read_numbers, read_settings};
 use help::HELP;
-use inputs::{Stop, answer_help, next_unit_with};
+use inputs::{Stop, Units, answer_help, end};
 use std::io::BufReader;
 use std::process::ExitCode;
 use telling::tell;
@@ -16,15 +16,15 @@ use tidings::Tidings;
 fn print(rt: &HostRuntime, tidings: &Tidings) -> Result<(), Stop> {
     match tidings {
         Tidings::One(holder, waits) => {
-            let holder = Member { place: *holder };
+            let holder = Member::from(*holder);
             println!(rt; "one may: {holder}")?;
             for (post, moves) in waits.iter().enumerate() {
                 println!(rt; "post {post} after {moves}")?;
             }
         }
         Tidings::Several(first, second) => {
-            let first = Member { place: *first };
-            let second = Member { place: *second };
+            let first = Member::from(*first);
+            let second = Member::from(*second);
             println!(rt; "several may: {first}, {second}")?;
         }
     }
@@ -36,27 +36,14 @@ fn run(rt: &HostRuntime) -> Result<(), Stop> {
         return Ok(());
     }
     let heap = rt.alloc();
-    let mut input = BufReader::new(heap, rt.stdin())?;
-    let mut lines = 0;
-    let mut text = Vec::new(heap);
-    let mut bytes = Vec::new(heap);
-    let ending = next_unit_with(&mut input, &mut text, &mut bytes, &mut lines)?.ok_or(
-        Fault::Malformed,
-    )?;
-    let settings = ending.settle(read_settings(bytes.as_slice()))?;
-    let ending = next_unit_with(&mut input, &mut text, &mut bytes, &mut lines)?.ok_or(
-        Fault::Malformed,
-    )?;
-    let numbers = ending.settle_read(read_numbers(heap, bytes.as_slice(), &settings))?;
+    let mut units = Units::new(heap, BufReader::new(heap, rt.stdin())?);
+    let ending = units.required()?;
+    let settings = ending.settle(read_settings(units.unit(ending).bytes))?;
+    let ending = units.required()?;
+    let numbers = ending.settle_read(read_numbers(heap, units.unit(ending).bytes, &settings))?;
     print(rt, &tell(heap, &settings, numbers.as_slice())?)
 }
 
 fn main(rt: HostRuntime) -> ExitCode {
-    match run(&rt) {
-        Ok(()) => ExitCode::SUCCESS,
-        Err(stop) => {
-            let _ = eprintln!(rt; "order: {stop}");
-            ExitCode::FAILURE
-        }
-    }
+    end(&rt, "order", run(&rt))
 }

@@ -13,9 +13,10 @@ use posts::{Post, Told};
 // A frame.
 fn hear(post: Post, settings: &Settings, unit: Unit<'_>) -> Result<(Post, Reply), Fault>
     requires { slice_index unit.bytes.now 0 ≡ 1 }
-    ensures { result ≡ reply_to settings.now post (line_in unit) }
+    ensures { result ≡ reply_to settings.now post (line_in unit.entry) }
 {
-    unit.ending.settle(read_frame(unit.bytes, settings, post.place()))?;
+    unit.ending
+        .settle(read_frame(unit.bytes, settings, post.place()))?;
     let (post, act) = post.step(Told::Frame(unit.bytes), settings);
     Ok((post, Reply::Acted(act)))
 }
@@ -36,15 +37,17 @@ fn obey_order(post: Post, settings: &Settings, order: PostOrder) -> (Post, Reply
 // An order to the post.
 fn obey(post: Post, settings: &Settings, unit: Unit<'_>) -> Result<(Post, Reply), Fault>
     requires { slice_index unit.bytes.now 0 ≢ 1 }
-    ensures { result ≡ reply_to settings.now post (line_in unit) }
+    ensures { result ≡ reply_to settings.now post (line_in unit.entry) }
 {
-    let order = unit.ending.settle(read_post_order(unit.bytes, post.place()))?;
+    let order = unit
+        .ending
+        .settle(read_post_order(unit.bytes, post.place()))?;
     Ok(obey_order(post, settings, order))
 }
 
 // The post after a line with this unit on it, and what it answers.
 pub fn reply(post: Post, settings: &Settings, unit: Unit<'_>) -> Result<(Post, Reply), Fault>
-    ensures { result ≡ reply_to settings.now post (line_in unit) }
+    ensures { result ≡ reply_to settings.now post (line_in unit.entry) }
 {
     match unit.bytes {
         [1, ..] => hear(post, settings, unit),

@@ -12,7 +12,7 @@ use crate::start::start;
 use crate::{Line, PlayError, Report};
 use commands::{Order, read_order};
 use frames::Settings;
-use lines::{Ending, read_first_line, read_three};
+use lines::{Ending, Unit, read_first_line, read_three};
 use posts::Post;
 use std::alloc::{AllocError, Global};
 
@@ -37,7 +37,8 @@ impl Report {
         ensures sound { OnOk result (Sound settings.now record { posts = posts.new; lines = lines.new } self.new.tally) }
         ensures moves { OnOk result (self.new.tally.moves ≤ self.old.tally.moves + 2) }
     {
-        if ending.is_blank(bytes) {
+        let unit = Unit { bytes, ending };
+        if unit.is_blank() {
             return Ok(());
         }
         let command = match ending.settle(read_order(bytes, settings)) {

@@ -6,28 +6,25 @@ mod printing;
 
 use frames::{Fault, Settings, read_settings, write_frame};
 use help::HELP;
-use inputs::{Stop, answer_help, next_unit_with};
+use inputs::{Stop, Units, answer_help, end};
 use posts::{Memory, Post};
 use printing::Printer;
 use ring::{Line, PlayError, play};
-use std::alloc::{AllocError, Global};
+use std::alloc::Global;
 use std::io::{BufReader, Read};
 use std::process::ExitCode;
 
 // At the beginning all memories are zero and all buttons up.
-fn first_posts(heap: Global, settings: &Settings) -> Result<Vec<Post>, AllocError> {
+fn first_posts(heap: Global, settings: &Settings) -> Result<Vec<Post>, Stop> {
     let mut posts = Vec::new(heap);
     for place in 0..settings.posts {
-        let Ok(post) = Post::new(place, Memory::from_bytes([0; 16]), settings) else {
-            unreachable()
-        };
-        posts.push(post)?;
+        posts.push(Post::new(place, Memory::from_bytes([0; 16]), settings)?)?;
     }
     Ok(posts)
 }
 
 // At the beginning each line holds the frame that its post sends with number 0.
-fn first_lines(heap: Global, settings: &Settings) -> Result<Vec<Line>, AllocError> {
+fn first_lines(heap: Global, settings: &Settings) -> Result<Vec<Line>, Stop> {
     let mut lines = Vec::new(heap);
     for post in 0..settings.posts {
         let frame = write_frame(post, 0);
@@ -55,15 +52,10 @@ fn run(rt: &HostRuntime) -> Result<(), Stop> {
         return Ok(());
     }
     let heap = rt.alloc();
-    let mut input = BufReader::new(heap, rt.stdin())?;
-    let mut text = Vec::new(heap);
-    let mut bytes = Vec::new(heap);
-    let mut before = 0;
-    let ending = next_unit_with(&mut input, &mut text, &mut bytes, &mut before)?.ok_or(
-        Fault::Malformed,
-    )?;
-    let settings = ending.settle(read_settings(bytes.as_slice()))?;
-    let script = read_rest(heap, &mut input)?;
+    let mut units = Units::new(heap, BufReader::new(heap, rt.stdin())?);
+    let ending = units.required()?;
+    let settings = ending.settle(read_settings(units.unit(ending).bytes))?;
+    let script = read_rest(heap, &mut units.input)?;
     let mut posts = first_posts(heap, &settings)?;
     let mut lines = first_lines(heap, &settings)?;
     let mut numbers = vec![in heap; 0u16; settings.members()]?;
@@ -77,7 +69,7 @@ fn run(rt: &HostRuntime) -> Result<(), Stop> {
     ) {
         Ok(report) => Printer {
             settings,
-            lines_before: before,
+            lines_before: units.lines,
         }
         .print(rt, &report),
         Err(PlayError::Memory) => Err(Stop::Memory),
@@ -86,11 +78,5 @@ fn run(rt: &HostRuntime) -> Result<(), Stop> {
 }
 
 fn main(rt: HostRuntime) -> ExitCode {
-    match run(&rt) {
-        Ok(()) => ExitCode::SUCCESS,
-        Err(stop) => {
-            let _ = eprintln!(rt; "storm: {stop}");
-            ExitCode::FAILURE
-        }
-    }
+    end(&rt, "storm", run(&rt))
 }

@@ -1,51 +1,55 @@
 // A report in text.
+ghost use Rattle.std.specs.Iterator.{IsFinite};
+
 use frames::{Member, Settings};
 use inputs::Stop;
-use members::{may_move, most_moves};
+use members::{has_token, most_moves};
 use ring::{Report, Said};
 use std::io::{BufWriter, Write};
 
 // Prints the numbers of all members: for each post its own, its frame's and its end's.
 fn print_numbers<W: Write>(out: &mut W, numbers: &[u16]) -> Result<(), Stop> {
-    for (j, number) in numbers.iter().enumerate() {
-        let before = match j {
-            0 => "",
-            _ => if j % 3 == 0 { " | " } else { " " },
+    for (place, number) in numbers.iter().enumerate() {
+        let before = match Member::from(place) {
+            Member::Post(0) => "",
+            Member::Post(_) => " | ",
+            Member::Frame(_) | Member::End(_) => " ",
         };
         write!(out, "{before}{number}")?;
     }
     Ok(())
 }
 
-// Prints the members that may move.
-fn print_holders<W: Write>(out: &mut W, numbers: &[u16], k: u16) -> Result<(), Stop> {
-    let mut several = false;
-    for place in 0..numbers.len() {
-        if matches!(may_move(numbers, k, place), Ok(true)) {
-            let member = Member { place };
-            if several {
-                write!(out, ", ")?;
-            }
-            write!(out, "{member}")?;
-            several = true;
+// Prints members, a comma between them, and says whether there were any.
+fn print_list<W: Write, I: Iterator<Item = Member> + Drop>(
+    out: &mut W,
+    members: I,
+) -> Result<bool, Stop>
+    requires can { I.can_next members }
+    requires ends { IsFinite (I.remaining members) }
+{
+    let mut any = false;
+    for member in members {
+        if any {
+            write!(out, ", ")?;
         }
+        write!(out, "{member}")?;
+        any = true;
     }
+    Ok(any)
+}
+
+// Prints the members that may move.
+fn print_holders<W: Write>(out: &mut W, numbers: &[u16]) -> Result<(), Stop> {
+    let holders = (0..numbers.len()).filter(|place| has_token(numbers, *place) == Some(true));
+    print_list(out, holders.map(|place| Member::from(place)))?;
     Ok(())
 }
 
 // Prints the posts that would speak, or `-`.
 fn print_speakers<W: Write>(out: &mut W, speakers: &[bool]) -> Result<(), Stop> {
-    let mut several = false;
-    for (post, speaks) in speakers.iter().enumerate() {
-        if *speaks {
-            if several {
-                write!(out, ", ")?;
-            }
-            write!(out, "post {post}")?;
-            several = true;
-        }
-    }
-    if !several {
+    let speaking = speakers.iter().enumerate().filter(|(_, speaks)| **speaks);
+    if !print_list(out, speaking.map(|(post, _)| Member::Post(post)))? {
         write!(out, "-")?;
     }
     Ok(())
@@ -68,7 +72,7 @@ impl Printer {
         write!(out, "show: ")?;
         print_numbers(out, numbers)?;
         write!(out, "; word: ")?;
-        print_holders(out, numbers, self.settings.k)?;
+        print_holders(out, numbers)?;
         write!(out, "; speaks: ")?;
         print_speakers(out, speakers)
     }

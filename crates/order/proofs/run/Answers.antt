@@ -8,7 +8,7 @@ pub tell-requires : goal.tell-requires
 tell-requires c =
     let o = c.in_ok-settings.settings in
     let e = was_read _ _ _ _ c.in_ok-numbers.ensures.value in (
-      c.as_slice-3.ensures.len ∙ subst (λ r. IfOk r (λ v. vec_len v ≡ 3 * o.posts)) e c.read_numbers.ensures.len,
-      subst (AllByRecursion (λ (x : ℕ). x < o.k)) (sym c.as_slice-3.ensures.value)
+      c.as_slice.ensures.len ∙ subst (λ r. IfOk r (λ v. vec_len v ≡ 3 * o.posts)) e c.read_numbers.ensures.len,
+      subst (AllByRecursion (λ (x : ℕ). x < o.k)) (sym c.as_slice.ensures.value)
           (subst (λ r. IfOk r (λ v. AllByRecursion (λ (x : ℕ). x < o.k) (vec_items v))) e c.read_numbers.ensures.below),
     )
