@@ -9,17 +9,12 @@ use std::rt::Env;
 
 // Whether a program is asked what it does. Any other argument says nothing, nor do arguments that can't be read.
 fn asks_for_help<R: Env + Alloc>(rt: &R) -> bool {
-    let Ok(arguments) = env::args(rt) else {
+    let Ok(mut arguments) = env::args(rt) else {
         return false;
     };
-    let mut asked = false;
-    for argument in arguments.skip(1) {
-        match argument.as_str() {
-            "--help" | "-h" => asked = true,
-            _ => {}
-        }
-    }
-    asked
+    arguments
+        .skip(1)
+        .any(|argument| matches!(argument.as_str(), "--help" | "-h"))
 }
 
 // Prints what a program does, where it is asked that, and says whether it was.

@@ -12,7 +12,9 @@ use std::alloc::{AllocError, Global};
 
 // After how many moves a post of a healed ring has its turn.
 fn wait_of(settings: &Settings, numbers: &[u16], post: u8) -> usize
-    requires { (Numbered settings.now numbers.now) × ((Healed (ring_of settings.now.k numbers.now) numbers.now) × (post < settings.now.posts)) }
+    requires numbered { Numbered settings.now numbers.now }
+    requires healed { Healed (ring_of settings.now.k numbers.now) numbers.now }
+    requires there { post < settings.now.posts }
     ensures { TurnAfter (ring_of settings.now.k numbers.now) numbers.now result (3 * post) }
 {
     match moves_until(numbers, settings.k, 3 * usize::from(post)) {

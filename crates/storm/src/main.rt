@@ -10,41 +10,30 @@ use inputs::{Stop, Units, answer_help, end};
 use posts::{Memory, Post};
 use printing::Printer;
 use ring::{Line, PlayError, play};
-use std::alloc::Global;
+use std::alloc::{AllocError, Global};
 use std::io::{BufReader, Read};
 use std::process::ExitCode;
 
 // At the beginning all memories are zero and all buttons up.
-fn first_posts(heap: Global, settings: &Settings) -> Result<Vec<Post>, Stop> {
+fn first_posts(heap: Global, settings: &Settings) -> Result<Vec<Post>, AllocError> {
     let mut posts = Vec::new(heap);
     for place in 0..settings.posts {
-        posts.push(Post::new(place, Memory::from_bytes([0; 16]), settings)?)?;
+        let Ok(post) = Post::new(place, Memory::from_bytes([0; 16]), settings) else {
+            unreachable()
+        };
+        posts.push(post)?;
     }
     Ok(posts)
 }
 
 // At the beginning each line holds the frame that its post sends with number 0.
-fn first_lines(heap: Global, settings: &Settings) -> Result<Vec<Line>, Stop> {
+fn first_lines(heap: Global, settings: &Settings) -> Result<Vec<Line>, AllocError> {
     let mut lines = Vec::new(heap);
     for post in 0..settings.posts {
         let frame = write_frame(post, 0);
         lines.push(Line { frame, lost: false })?;
     }
     Ok(lines)
-}
-
-// The rest of an input, read in large parts.
-fn read_rest<R: Read>(heap: Global, input: &mut R) -> Result<Vec<u8>, Stop> {
-    let mut rest = Vec::new(heap);
-    let mut part = [0u8; 65_536];
-    for _ in 0..u64::MAX {
-        let count = input.read(&mut part)?;
-        if count == 0 {
-            break;
-        }
-        rest.extend_from_slice(&part[0..count])?;
-    }
-    Ok(rest)
 }
 
 fn run(rt: &HostRuntime) -> Result<(), Stop> {
@@ -55,7 +44,8 @@ fn run(rt: &HostRuntime) -> Result<(), Stop> {
     let mut units = Units::new(heap, BufReader::new(heap, rt.stdin())?);
     let ending = units.required()?;
     let settings = ending.settle(read_settings(units.unit(ending).bytes))?;
-    let script = read_rest(heap, &mut units.input)?;
+    let mut script = Vec::new(heap);
+    units.input.read_to_end(&mut script)?;
     let mut posts = first_posts(heap, &settings)?;
     let mut lines = first_lines(heap, &settings)?;
     let mut numbers = vec![in heap; 0u16; settings.members()]?;

@@ -19,7 +19,7 @@ pub wait_of-requires : goal.wait_of-requires
 wait_of-requires c =
     let s = c.args.numbers.now in
     let r = ring_of c.args.settings.now.k s in
-    (c.requires, (alone_healed r s c.in-One.holder (subst (Tells r s) c.in-One.is c.in-Ok.ensures.1), c.loop-post-test.true))
+    record { numbered = c.requires; healed = alone_healed r s c.in-One.holder (subst (Tells r s) c.in-One.is c.in-Ok.ensures.1); there = c.loop-post-test.true }
 
 pub loop-post-preserved : goal.loop-post-preserved
 loop-post-preserved c =

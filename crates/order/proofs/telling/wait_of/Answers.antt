@@ -5,4 +5,4 @@ use Rattle.order.proofs.telling.wait_of.Goals as goal
 
 pub unreachable-requires-in-Err : goal.unreachable-requires-in-Err
 unreachable-requires-in-Err c =
-    never_refused c.args.settings.now c.args.numbers.now _ _ c.requires.0 c.in-Err.ensures (omega (arith, c.requires.1.1, c.from.ensures))
+    never_refused c.args.settings.now c.args.numbers.now _ _ c.requires.numbered c.in-Err.ensures (omega (arith, c.requires.there, c.from.ensures))
