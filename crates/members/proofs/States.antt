@@ -1,7 +1,7 @@
 -- States of a ring, as member 0's number and the list of the others: who may move, by the numbers that differ from the one before.
 -- Assumes nothing.
-use Rattle.std.proofs.Common.{◌≡◌, ℕ, zero, suc, pred, ◌+◌, ◌<◌, ◌≤◌, Bool, true, false, cond, not, T, eqb, ltb, List, [], ◌∷◌, length, drop, set, sym, refl, ap, ◌∙◌, subst, inl, inr, arith, length-set}
-use Rattle.std.proofs.lemmas.List.{at_drop_more, at_drop_all}
+use Rattle.std.proofs.Common.{◌≡◌, ℕ, zero, suc, pred, ◌+◌, ◌<◌, ◌≤◌, Bool, true, false, cond, not, ◌&&◌, T, eqb, ltb, List, [], ◌∷◌, length, set, sym, refl, ap, ◌∙◌, subst, inl, inr, arith, length-set}
+use Rattle.std.specs.List.{list_all}
 use Rattle.std.proofs.lemmas.Bool.{cases_eq, cases_lt, cases_Bool, cases_order}
 use Rattle.std.proofs.lemmas.Bool.Decides.{nat_tests}
 use Rattle.members.specs.Ring.{Ring, State, IsState, Enough, all_below, at, last, may, next, moved, how_many, Healed}
@@ -33,18 +33,11 @@ below_set k [] i v h l = h
 below_set k (x ∷ xs) zero v h l = below_cons k v xs l (below_rest k x xs h)
 below_set k (x ∷ xs) (suc i) v h l = below_cons k x (set xs i v) (below_first k x xs h) (below_set k xs i v (below_rest k x xs h) l)
 
--- a walk over the numbers
-pub below_walk : (k : ℕ) (s : List ℕ) (i : ℕ) → i < length s → at s i < k → all_below k (drop (i + 1) s) ≡ all_below k (drop i s)
+-- the same test of each number, in the library's words
+pub all_below_is : (k : ℕ) (s : List ℕ) → list_all (λ x. ltb x k) s ≡ all_below k s
 unfolding all_below
-below_walk k s i l h = let e : all_below k (drop i s) ≡ all_below k (at s i ∷ drop (i + 1) s) = at_drop_more (all_below k) s i 0 l in grind (arith, nat_tests)
-
-pub below_fails : (k : ℕ) (s : List ℕ) (i : ℕ) → i < length s → k ≤ at s i → all_below k (drop i s) ≡ false
-unfolding all_below
-below_fails k s i l h = let e : all_below k (drop i s) ≡ all_below k (at s i ∷ drop (i + 1) s) = at_drop_more (all_below k) s i 0 l in grind (arith, nat_tests)
-
-pub below_done : (k : ℕ) (s : List ℕ) (i : ℕ) → length s ≤ i → all_below k (drop i s) ≡ true
-unfolding all_below
-below_done k s i l = at_drop_all (all_below k) s i l
+all_below_is k [] = refl
+all_below_is k (x ∷ xs) = ap (λ b. ltb x k && b) (all_below_is k xs)
 
 pub next_below : (r : Ring) → 0 < r.k → (s : State) → IsState r s → (i : ℕ) → i < r.members → next r s i < r.k
 unfolding next

@@ -1,51 +1,32 @@
 -- Walks over a state: what the tail, the chain and the weights of what is left are, one number further.
 -- Assumes nothing.
-use Rattle.std.proofs.Common.{◌≡◌, ℕ, suc, ◌+◌, ◌-◌, ◌*◌, ◌<◌, ◌≤◌, cond, eqb, List, [], ◌∷◌, length, drop, sym, refl, ap, ◌∙◌, mul-le-mul, arith, length-drop}
-use Rattle.std.proofs.lemmas.List.{at_drop_more, at_drop_all, drop_all, drop_more}
+use Rattle.std.proofs.Common.{◌≡◌, ℕ, suc, ◌+◌, ◌-◌, ◌*◌, ◌<◌, ◌≤◌, cond, eqb, inl, inr, List, [], ◌∷◌, length, drop, refl, mul-le-mul, arith, length-drop}
+use Rattle.std.proofs.lemmas.List.{at_drop_more, at_drop_all}
+use Rattle.std.proofs.lemmas.Bool.{cases_eq, eq-eqb, ne_eqb}
 use Rattle.std.proofs.lemmas.Bool.Decides.{nat_tests}
-use Rattle.members.specs.Potential.{ahead, chain, tail, weights, chained, potential}
+use Rattle.std.specs.List.{prefix_len}
+use Rattle.members.specs.Potential.{chain, tail, weights, chained, potential}
 use Rattle.members.specs.Ring.{at}
-use Rattle.members.proofs.Chain.{tail_same, tail_other, chain_hit, chain_miss}
 use Rattle.members.proofs.Weights.{weights_most}
 
-pub tail_walk : (x : ℕ) (s : List ℕ) (i : ℕ) → i < length s → at s i ≡ x → tail x (drop (i + 1) s) ≡ tail x (drop i s)
-tail_walk x s i l e = sym (at_drop_more (tail x) s i 0 l ∙ tail_same x (at s i) (drop (i + 1) s) e)
-
-pub tail_stop : (x : ℕ) (s : List ℕ) (i : ℕ) → i < length s → (at s i ≡ x → ⊥) → tail x (drop i s) ≡ drop i s
-tail_stop x s i l d = at_drop_more (tail x) s i 0 l ∙ (tail_other x (at s i) (drop (i + 1) s) d ∙ sym (drop_more s i 0 l))
-
-pub tail_end : (x : ℕ) (s : List ℕ) (i : ℕ) → length s ≤ i → tail x (drop i s) ≡ drop i s
+-- the tail begins behind the run
+pub tail_at : (x : ℕ) (ys : List ℕ) → drop (prefix_len (λ y. eqb y x) ys) ys ≡ tail x ys
 unfolding tail
-tail_end x s i l = at_drop_all (tail x) s i l ∙ sym (drop_all i s l)
+tail_at x [] = refl
+tail_at x (y ∷ ys) =
+    let q : 1 + prefix_len (λ y. eqb y x) ys ≡ suc (prefix_len (λ y. eqb y x) ys) = omega arith in
+    elim (cases_eq y x) [
+      | inl e ↦ rw (eq-eqb y x e, q) (tail_at x ys)
+      | inr d ↦ rw (ne_eqb y x d) refl
+    ]
 
--- down from i, with f found so far
-pub chain_found : (k x : ℕ) (s : List ℕ) (i f : ℕ) → 0 < i → i ≤ length s → f ≡ chain k x (drop i s) → at s (i - 1) ≡ ahead k x f → f + 1 ≡ chain k x (drop (i - 1) s)
-chain_found k x s i f p l e h =
-    let n : i - 1 + 1 ≡ i = omega arith in
-    let d : f ≡ chain k x (drop (i - 1 + 1) s) = rw n e in
-    let g = at_drop_more (chain k x) s (i - 1) 0 (omega arith) ∙ chain_hit k x (at s (i - 1)) (drop (i - 1 + 1) s) (h ∙ ap (ahead k x) d) in
-    omega arith
-
-pub chain_passed : (k x : ℕ) (s : List ℕ) (i f : ℕ) → 0 < i → i ≤ length s → f ≡ chain k x (drop i s) → (at s (i - 1) ≡ ahead k x f → ⊥) → f ≡ chain k x (drop (i - 1) s)
-chain_passed k x s i f p l e h =
-    let n : i - 1 + 1 ≡ i = omega arith in
-    let d : f ≡ chain k x (drop (i - 1 + 1) s) = rw n e in
-    let g = at_drop_more (chain k x) s (i - 1) 0 (omega arith) ∙ chain_miss k x (at s (i - 1)) (drop (i - 1 + 1) s) (λ q. h (q ∙ sym (ap (ahead k x) d))) in
-    d ∙ sym g
-
-pub chain_end : (k x : ℕ) (s : List ℕ) (i : ℕ) → length s ≤ i → chain k x (drop i s) ≡ 0
-unfolding chain
-chain_end k x s i l = at_drop_all (chain k x) s i l
-
--- up to i, with the sum a so far
-pub weights_walk : (s : List ℕ) (i a b t : ℕ) → i < length s → a + weights (at s (i - 1)) (drop i s) ≡ t →
-    b ≡ a + cond (eqb (at s i) (at s (i - 1))) 0 (length s - i) → b + weights (at s (i + 1 - 1)) (drop (i + 1) s) ≡ t
+-- up to i, with the sum a so far and p before number i
+pub weights_walk : (s : List ℕ) (i p a b t : ℕ) → i < length s → a + weights p (drop i s) ≡ t → b ≡ a + cond (eqb (at s i) p) 0 (length s - i) →
+    b + weights (at s i) (drop (i + 1) s) ≡ t
 unfolding weights
-weights_walk s i a b t l h q =
-    let e : weights (at s (i - 1)) (drop i s) ≡ weights (at s (i - 1)) (at s i ∷ drop (i + 1) s) = at_drop_more (weights (at s (i - 1))) s i 0 l in
+weights_walk s i p a b t l h q =
+    let e : weights p (drop i s) ≡ weights p (at s i ∷ drop (i + 1) s) = at_drop_more (weights p) s i 0 l in
     let n : suc (length (drop (i + 1) s)) ≡ length s - i = simp length-drop (omega arith) in
-    let p : i + 1 - 1 ≡ i = omega arith in
-    let w : weights (at s (i + 1 - 1)) (drop (i + 1) s) ≡ weights (at s i) (drop (i + 1) s) = ap (λ j. weights (at s j) (drop (i + 1) s)) p in
     grind (arith, nat_tests)
 
 pub weights_end : (p : ℕ) (s : List ℕ) (i : ℕ) → length s ≤ i → weights p (drop i s) ≡ 0

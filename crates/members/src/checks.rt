@@ -49,10 +49,9 @@ pub(crate) fn check_ring(numbers: &[u16], k: u16) -> Result<(), Refusal>
     ensures { result ≡ answer (refused_ring k numbers.now) tt }
 {
     check_size(numbers, k)?;
-    for number in numbers {
-        if *number >= k {
-            return Err(Refusal::NumberTooLarge);
-        }
+    if numbers.iter().all(|number| *number < k) {
+        Ok(())
+    } else {
+        Err(Refusal::NumberTooLarge)
     }
-    Ok(())
 }

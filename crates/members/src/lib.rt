@@ -1,4 +1,5 @@
 // A ring of members by Dijkstra's K-state rule: functions over a lent slice with the number of each member, member 0 first.
+// The caller keeps the numbers, in any slice, and K beside them, so no struct holds the two together.
 // Bad arguments are refused by the answer, with nothing changed.
 #![tactic(auto)]
 

@@ -9,29 +9,22 @@ use crate::checks::check_ring;
 use crate::guard::one_up;
 use crate::refusal::Refusal;
 
-// Where the tail of the others begins: behind the run of member 0's number.
-fn tail_start(numbers: &[u16]) -> usize
-    requires { 0 < length numbers.now }
-    ensures within { result ≤ length numbers.now }
-    ensures value { drop result numbers.now ≡ tail (at numbers.now 0) (drop 1 numbers.now) }
+// The tail of the others: what stands behind the run of member 0's number `first` at their front.
+fn tail_of(first: u16, others: &[u16]) -> &[u16]
+    ensures { result.now ≡ tail first others.now }
 {
-    for i in 1..numbers.len() {
-        if numbers[i] != numbers[0] {
-            return i;
-        }
-    }
-    numbers.len()
+    let run = others.iter().take_while(|number| **number == first).count();
+    &others[run..]
 }
 
-// The length of the chain of member 0's number in the numbers from `start` on, from the last one to the first.
-fn chain_from(numbers: &[u16], k: u16, start: usize) -> usize
-    requires { (0 < length numbers.now) × ((at numbers.now 0 < k) × (start ≤ length numbers.now)) }
-    ensures { result ≡ chain k (at numbers.now 0) (drop start numbers.now) }
+// The length of the chain of `first` in these numbers, from the last one to the first.
+fn chain_of(first: u16, numbers: &[u16], k: u16) -> usize
+    ensures { result ≡ chain k first numbers.now }
 {
-    let mut wanted = numbers[0];
+    let mut wanted = first;
     let mut found = 0;
-    for i in (start..numbers.len()).rev() {
-        if numbers[i] == wanted {
+    for number in numbers.iter().rev() {
+        if *number == wanted {
             wanted = one_up(wanted, k);
             found += 1;
         }
@@ -39,16 +32,18 @@ fn chain_from(numbers: &[u16], k: u16, start: usize) -> usize
     found
 }
 
-// The weights of those that differ from the one before.
-fn weights_of(numbers: &[u16]) -> usize
-    requires { (0 < length numbers.now) × (length numbers.now < 65536) }
-    ensures { result ≡ weights (at numbers.now 0) (drop 1 numbers.now) }
+// The weights of those that differ from the one before, `first` standing before them all.
+fn weights_of(first: u16, others: &[u16]) -> usize
+    requires { length others.now < 65536 }
+    ensures { result ≡ weights first others.now }
 {
+    let mut before = first;
     let mut sum = 0;
-    for i in 1..numbers.len() {
-        if numbers[i] != numbers[i - 1] {
-            sum += numbers.len() - i;
+    for (i, own) in others.iter().enumerate() {
+        if *own != before {
+            sum += others.len() - i;
         }
+        before = *own;
     }
     sum
 }
@@ -58,9 +53,12 @@ pub fn potential_of(numbers: &[u16], k: u16) -> Result<usize, Refusal>
     ensures value { result ≡ answer (refused_ring k numbers.now) (potential k numbers.now) }
     ensures bounds { IfOk result (Bounds (ring_of k numbers.now) numbers.now) }
 {
+    let [first, others @ ..] = numbers else {
+        return Err(Refusal::TooFewMembers);
+    };
     check_ring(numbers, k)?;
-    let chained = chain_from(numbers, k, tail_start(numbers));
-    Ok(numbers.len() * chained + weights_of(numbers))
+    let chained = chain_of(*first, tail_of(*first, others), k);
+    Ok(numbers.len() * chained + weights_of(*first, others))
 }
 
 // The most moves that a ring of so many members can make before it is healed: three halves of members times (members - 1).

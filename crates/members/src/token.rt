@@ -19,6 +19,7 @@ pub fn has_token(numbers: &[u16], i: usize) -> Option<bool>
 }
 
 // The member after `i` in a ring of so many, which is 0 after the last one.
+// The step of `guard::one_up` at an index: one function for both types would need a trait, for one line of arithmetic.
 pub fn member_after(members: usize, i: usize) -> usize
     ensures { result ≡ up members i }
 {
@@ -73,7 +74,8 @@ pub fn who_may(numbers: &[u16], k: u16) -> Result<Holders, Refusal>
 
 // How many turns from member `holder` to member `i`, in a ring of `members`.
 fn turns_between(holder: usize, i: usize, members: usize) -> usize
-    requires { (holder < members) × (i < members) }
+    requires holder_there { holder < members }
+    requires member_there { i < members }
     ensures { result ≡ wait members holder i }
 {
     if holder <= i {
