@@ -35,9 +35,7 @@ pub(crate) fn pair_at(numbers: &[u16], k: u16, i: usize) -> Result<(u16, u16), R
     ensures { result ≡ answer (refused_member k numbers.now i) (at numbers.now (before numbers.now i), at numbers.now i) }
 {
     check_size(numbers, k)?;
-    let Some((before, own)) = numbers_at(numbers, i) else {
-        return Err(Refusal::NoSuchMember);
-    };
+    let (before, own) = numbers_at(numbers, i).ok_or(Refusal::NoSuchMember)?;
     if before >= k || own >= k {
         return Err(Refusal::NumberTooLarge);
     }
