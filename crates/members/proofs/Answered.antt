@@ -47,15 +47,19 @@ ring_taken k s p q = rw (p, q)
 pub whole_taken : (k : ℕ) (s : State) (i : ℕ) → refused_ring k s ≡ None → i < length s → refused_whole k s i ≡ None
 whole_taken k s i p l = rw (p, lt-ltb i (length s) l)
 
--- a ring that isn't refused
-pub ring_good : (k : ℕ) (s : State) → refused_ring k s ≡ None → Enough (ring_of k s) × IsState (ring_of k s) s
-ring_good k s e =
-    let z = size_taken k s _ e in
-    let b : all_below k s ≡ true = grind (arith, nat_tests) in
-    ((z.0, omega (arith, z.1)), (refl, subst T (sym b) tt))
+-- what is known of a ring that was checked
+pub record Checked (k : ℕ) (s : State) : Type 0 where
+  pub taken : refused_ring k s ≡ None
+  pub wide : length s ≤ k
+  pub enough : Enough (ring_of k s)
+  pub state : IsState (ring_of k s) s
 
-pub ring_wide : (k : ℕ) (s : State) → refused_ring k s ≡ None → length s ≤ k
-ring_wide k s e = (size_taken k s _ e).1
+pub checked : {A : Type 0} (k : ℕ) (s : State) (a v : A) → Ok v ≡ answer (refused_ring k s) a → Checked k s
+checked k s a v e =
+    let r = accepted (refused_ring k s) a v e in
+    let z = size_taken k s _ r.0 in
+    let b : all_below k s ≡ true = grind (arith, nat_tests) in
+    record { taken = r.0; wide = z.1; enough = (z.0, omega (arith, z.1)); state = (refl, subst T (sym b) tt) }
 
 before_below : (s : State) (i : ℕ) → i < length s → before s i < length s
 before_below s zero l = omega (arith, suc-pred-eq_of_pos l)

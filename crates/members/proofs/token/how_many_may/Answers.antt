@@ -7,7 +7,7 @@ use Rattle.std.proofs.lemmas.Iterator.Consumers.{YieldsList-from_filter, count_f
 use borrow.Author.Tests.{tests}
 use Rattle.members.specs.Answers.{ring_of}
 use Rattle.members.specs.Ring.{Ring, State, may, how_many}
-use Rattle.members.proofs.Answered.{accepted, gives}
+use Rattle.members.proofs.Answered.{checked, gives}
 use Rattle.members.proofs.token.how_many_may.Goals as goal
 
 -- a member of the ring that may move
@@ -40,8 +40,8 @@ pub returns : goal.returns
 returns c =
     let s = c.args.numbers.now in
     let r = ring_of c.args.k s in
-    let z = (accepted _ _ _ c.in_ok-check_ring.ensures).0 in
+    let h = checked c.args.k s _ _ c.in_ok-check_ring.ensures in
     let e : c.count.result ≡ length (filter (there r s) (range_with_len 0 (length s))) =
     count_from_yields_List c.filter-holders.result _ c.count.ensures.ran
     (YieldsList-from_filter _ (there r s) (YieldsList-from_range 0 (length s) (length s) (cc) (omega arith)) c.filter-holders.ensures.closure (λ x r q k. search (rules, tests, there_is))) in
-    gives _ _ _ z (e ∙ counted r s)
+    gives _ _ _ h.taken (e ∙ counted r s)

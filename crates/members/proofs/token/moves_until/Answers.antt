@@ -2,7 +2,7 @@
 use Rattle.std.proofs.Common.{length, sym, subst, arith}
 use Rattle.members.specs.Answers.{ring_of}
 use Rattle.members.specs.Turns.{TurnAfter}
-use Rattle.members.proofs.Answered.{accepted, whole_taken, ring_good}
+use Rattle.members.proofs.Answered.{checked, whole_taken}
 use Rattle.members.proofs.Runs.{turn_after}
 use Rattle.members.proofs.States.{alone_healed, counted_two}
 use Rattle.members.proofs.token.moves_until.Goals as goal
@@ -15,22 +15,21 @@ returns-in-One c =
     let k = c.args.k in
     let s = c.args.numbers.now in
     let r = ring_of k s in
-    let z = (accepted _ _ _ c.in_ok-check_ring.ensures).0 in
-    let g = ring_good k s z in
+    let h = checked k s _ _ c.in_ok-check_ring.ensures in
     let a = c.in-One.ensures k in
     let i = c.args.i in (
-      whole_taken k s i z (omega arith),
+      whole_taken k s i h.taken (omega arith),
       subst (λ n. TurnAfter r s n i) (sym c.turns_between.ensures)
-          (turn_after r g.0 s g.1 (alone_healed r s c.in-One.holder a) c.in-One.holder a.there a.may_move_now i (omega arith)),
+          (turn_after r h.enough s h.state (alone_healed r s c.in-One.holder a) c.in-One.holder a.there a.may_move_now i (omega arith)),
     )
 
 pub returns-in-Several : goal.returns-in-Several
 returns-in-Several c =
     let k = c.args.k in
     let s = c.args.numbers.now in
-    let z = (accepted _ _ _ c.in_ok-check_ring.ensures).0 in
+    let h = checked k s _ _ c.in_ok-check_ring.ensures in
     let t = c.in-Several.ensures k in (
-      whole_taken k s c.args.i z (omega arith),
-      λ h.
-          omega (arith, h, counted_two (ring_of k s) s (length s) c.in-Several.field-0 c.in-Several.field-1 t.0 t.1 t.2 t.3),
+      whole_taken k s c.args.i h.taken (omega arith),
+      λ q.
+          omega (arith, q, counted_two (ring_of k s) s (length s) c.in-Several.field-0 c.in-Several.field-1 t.0 t.1 t.2 t.3),
     )
