@@ -1,5 +1,6 @@
 -- The code of a post is that of a member of the ring. Assumes nothing.
 use Rattle.std.proofs.Common.{◌≡◌, ℕ, ◌*◌, ◌<◌, Bool, true, false, cond, ◌&&◌, length, set, sym, refl, ◌∙◌, arith, get_or-set_same}
+use Rattle.std.proofs.Math.Bool.{and-true}
 use Rattle.members.specs.Answers.{next_by}
 use Rattle.members.specs.Ring.{State, IsState, at, may, next}
 use Rattle.frames.specs.declared.settings.Settings.{Settings}
@@ -12,12 +13,10 @@ use Rattle.posts.proofs.Norms.{norm_below, norm_is, norm_norm}
 
 -- the number of a member that moved if it might
 number_after : (b : Bool) (s : State) (i v : ℕ) → i < length s → at (cond b (set s i v) s) i ≡ cond b v (at s i)
-number_after true s i v l = get_or-set_same s i v 0 l
-number_after false s i v l = refl
+number_after b s i v l = grind (arith, get_or-set_same)
 
 with_button_up : (b : Bool) (x y : ℕ) → cond b x y ≡ cond (b && true) x y
-with_button_up true x y = refl
-with_button_up false x y = refl
+with_button_up b x y = rw and-true
 
 goes_as_member : (n k p : ℕ) (s : State) (x : Memory) → 0 < k → IsState (ring_of n k) s → p < n → at s (3 * p) ≡ number_in k x → at s (heard_of n p) ≡ heard_in k x →
     at (goes_if (ring_of n k) s (3 * p)) (3 * p) ≡ number_in k (ticked k p false x)

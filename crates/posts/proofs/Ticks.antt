@@ -1,5 +1,5 @@
 -- Runs of ticks: when a post sends, and when it moves. Assumes nothing.
-use Rattle.std.proofs.Common.{◌≡◌, ℕ, zero, suc, ◌-◌, ◌<◌, ◌≤◌, min, Bool, true, false, cond, ◌&&◌, ◌||◌, eqb, ltb, List, [], ◌∷◌, is_some, Some, None, Option, refl, ap, ◌∙◌, inl, inr, arith}
+use Rattle.std.proofs.Common.{◌≡◌, ℕ, zero, suc, ◌-◌, ◌<◌, ◌≤◌, min, Bool, true, false, cond, ◌||◌, eqb, List, [], ◌∷◌, is_some, Some, None, Option, refl, ap, ◌∙◌, inl, inr, arith}
 use Rattle.std.proofs.lemmas.Bool.{and_left, cases_Bool}
 use Rattle.std.proofs.lemmas.Bool.Decides.{nat_tests}
 use Rattle.lines.specs.declared.fault.Fault.{Fault}
@@ -26,9 +26,6 @@ hear_sends None s bs p acts = refl
 hear_sends (Some f) s bs p acts = refl
 
 -- in a tick a post sends, or one tick fewer is left to sending
-sent : (b : Bool) (bytes : List ℕ) (rest : Bool) → b ≡ true → (is_some (cond b (Some bytes) None) || rest) ≡ true
-sent b bytes rest e = rw e
-
 unsent : (b : Bool) (bytes : List ℕ) (rest : Bool) → b ≡ false → (is_some (cond b (Some bytes) None) || rest) ≡ rest
 unsent b bytes rest e = rw e
 
@@ -38,11 +35,10 @@ one_fewer moves w e = grind (arith, nat_tests)
 pub sends_within : (p : Post) (s : Settings) (es : List Event) → suc (min p.memory.wait 3) ≤ ticks_in es → any_sends (acts_in s es p) ≡ true
 sends_within p s [] l = absurd (omega arith)
 sends_within p s (tick ∷ es) l =
-    let bytes = frame_of s (after_tick s p) in
     elim (cases_Bool (deeds_in s p).sends) [
-      | inl e ↦ sent (deeds_in s p).sends bytes (any_sends (acts_in s es (after_tick s p))) e
+      | inl e ↦ rw e
       | inr e ↦
-          unsent (deeds_in s p).sends bytes (any_sends (acts_in s es (after_tick s p))) e
+          unsent (deeds_in s p).sends (frame_of s (after_tick s p)) (any_sends (acts_in s es (after_tick s p))) e
           ∙ sends_within (after_tick s p) s es (omega (arith, one_fewer (deeds_in s p).moves p.memory.wait e))
     ]
 sends_within p s (frame bs ∷ es) l =
@@ -60,16 +56,7 @@ same_guard k p heard number taken moves e = rw (e, norm_norm k heard, norm_norm 
 token_stays : (s : Settings) (p : Post) → (deeds_in s p).moves ≡ false → has_token s (after_tick s p) ≡ has_token s p
 token_stays s p e = same_guard s.k p.place p.memory.heard p.memory.number _ (deeds_in s p).moves e
 
--- with the token and some time it speaks, and with no time it moves
-moves_at_none : (may : Bool) (time : ℕ) → may ≡ true → time ≡ 0 → (may && eqb time 0) ≡ true
-moves_at_none may time h e = grind (arith, nat_tests)
-
-still_at_some : (may : Bool) (time n : ℕ) → time ≡ suc n → (may && eqb time 0) ≡ false
-still_at_some may time n e = grind (arith, nat_tests)
-
-speaks_at_some : (may : Bool) (time n : ℕ) → may ≡ true → time ≡ suc n → (may && ltb 0 time) ≡ true
-speaks_at_some may time n h e = grind (arith, nat_tests)
-
+-- a tick of speaking takes one of the time
 less_time : (button : Bool) (t : Turn) (n : ℕ) (moves speaks : Bool) → moves ≡ false → speaks ≡ true → time_to_speak button t ≡ suc n →
     time_to_speak button (cond moves (lasting 0) (cond speaks (spoken_once t) t)) ≡ n
 less_time button t n moves speaks e f h = rw (e, f) (grind (arith, nat_tests))
@@ -83,11 +70,11 @@ moves_after s p zero h e =
     record {
       speaks_first = λ i l. absurd (omega arith);
       moves_not_yet = λ i l. absurd (omega arith);
-      moves_then = moves_at_none (has_token s p) (time_to_speak p.button p.memory.turn) h e;
+      moves_then = rw (h, e);
     }
 moves_after s p (suc n) h e =
-    let m : (deeds_in s p).moves ≡ false = still_at_some (has_token s p) (time_to_speak p.button p.memory.turn) n e in
-    let t : (deeds_in s p).speaks ≡ true = speaks_at_some (has_token s p) (time_to_speak p.button p.memory.turn) n h e in
+    let m : (deeds_in s p).moves ≡ false = rw (h, e) (grind (arith, nat_tests)) in
+    let t : (deeds_in s p).speaks ≡ true = rw (h, e) (grind (arith, nat_tests)) in
     let rest = moves_after s (after_tick s p) n (token_stays s p m ∙ h)
     (less_time p.button p.memory.turn n (deeds_in s p).moves (deeds_in s p).speaks m t e) in
     record {
