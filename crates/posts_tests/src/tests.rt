@@ -13,8 +13,34 @@ struct Row {
     button: bool,
     before: [u16; 4],
     after: [u16; 4],
-    deeds: [bool; 3],
+    deeds: Deeds,
 }
+
+const NOTHING: Deeds = Deeds {
+    speaks: false,
+    moves: false,
+    sends: false,
+};
+
+const SPEAKS: Deeds = Deeds {
+    speaks: true,
+    ..NOTHING
+};
+
+const SENDS: Deeds = Deeds {
+    sends: true,
+    ..NOTHING
+};
+
+const SPEAKS_AND_SENDS: Deeds = Deeds {
+    speaks: true,
+    ..SENDS
+};
+
+const MOVES: Deeds = Deeds {
+    moves: true,
+    ..SENDS
+};
 
 const ROWS: [Row; 8] = [
     Row {
@@ -22,65 +48,65 @@ const ROWS: [Row; 8] = [
         button: false,
         before: [65_535, 65_535, 0, 1],
         after: [1, 0, 0, 3],
-        deeds: [false, true, true],
+        deeds: MOVES,
     },
     Row {
         place: 0,
         button: false,
         before: [63, 63, 0, 3],
         after: [0, 63, 0, 3],
-        deeds: [false, true, true],
+        deeds: MOVES,
     },
     Row {
         place: 0,
         button: true,
         before: [5, 5, 1001, 3],
         after: [6, 5, 0, 3],
-        deeds: [false, true, true],
+        deeds: MOVES,
     },
     Row {
         place: 0,
         button: true,
         before: [5, 5, 1000, 3],
         after: [5, 5, 999, 2],
-        deeds: [true, false, false],
+        deeds: SPEAKS,
     },
     Row {
         place: 0,
         button: false,
         before: [5, 5, 7, 3],
         after: [6, 5, 0, 3],
-        deeds: [false, true, true],
+        deeds: MOVES,
     },
     Row {
         place: 0,
         button: true,
         before: [5, 6, 1001, 65_535],
         after: [5, 6, 1001, 2],
-        deeds: [false, false, false],
+        deeds: NOTHING,
     },
     Row {
         place: 1,
         button: true,
         before: [64, 70, 9, 0],
         after: [0, 0, 9, 3],
-        deeds: [false, false, true],
+        deeds: SENDS,
     },
     Row {
         place: 1,
         button: true,
         before: [0, 7, 1, 0],
         after: [0, 7, 0, 3],
-        deeds: [true, false, true],
+        deeds: SPEAKS_AND_SENDS,
     },
 ];
 
-fn remembered(words: &[u16; 4], moves: u32, since: u32) -> Memory {
+fn remembered([number, heard, left, wait]: [u16; 4], moves: u32, since: u32) -> Memory {
     Memory {
-        number: words[0],
-        heard: words[1],
-        turn: Turn { left: words[2] },
-        wait: words[3],
+        number,
+        heard,
+        turn: Turn { left },
+        wait,
         moves,
         since,
     }
@@ -89,58 +115,50 @@ fn remembered(words: &[u16; 4], moves: u32, since: u32) -> Memory {
 #[test]
 fn ticks_from_any_content(rt: HostRuntime) -> Result<(), Fail> {
     let settings = read_settings(&TWO_POSTS)?;
-    for row in ROWS.iter() {
+    for row in &ROWS {
         let top = u32::MAX;
-        let mut post = Post::new(row.place, remembered(&row.before, top, top), &settings)?;
+        let mut post = Post::new(row.place, remembered(row.before, top, top), &settings)?;
         post.button = row.button;
         let (after, act) = post.tick(&settings);
-        let since = if row.deeds[1] { 0 } else { top };
-        assert_eq!(rt; after.memory, remembered(&row.after, top, since));
-        assert_eq!(rt; [act.speaks, act.moves, act.sends.is_some()], row.deeds);
+        let since = if row.deeds.moves { 0 } else { top };
+        assert_eq!(rt; after.memory, remembered(row.after, top, since));
+        let deeds = Deeds {
+            speaks: act.speaks,
+            moves: act.moves,
+            sends: act.sends.is_some(),
+        };
+        assert_eq!(rt; deeds, row.deeds);
     }
     Ok(())
-}
-
-const QUIET: Act = Act {
-    speaks: false,
-    moves: false,
-    sends: None,
-    refuses: None,
-};
-
-const SPEAKS: Act = Act {
-    speaks: true,
-    ..QUIET
-};
-
-fn sends(frame: [u8; 6], moves: bool) -> Act {
-    Act {
-        moves,
-        sends: Some(frame),
-        ..QUIET
-    }
-}
-
-fn refuses(fault: Fault) -> Act {
-    Act {
-        refuses: Some(fault),
-        ..QUIET
-    }
 }
 
 #[test]
 fn a_turn_step_by_step(rt: HostRuntime) -> Result<(), Fail> {
     let settings = read_settings(&TWO_POSTS)?;
-    let mut post = Post::new(1, remembered(&[0; 4], 0, 0), &settings)?;
+    let mut post = Post::new(1, remembered([0; 4], 0, 0), &settings)?;
+    let quiet = Act::default();
+    let speaks = Act {
+        speaks: true,
+        ..quiet
+    };
+    let sends = |frame: [u8; 6], moves: bool| Act {
+        moves,
+        sends: Some(frame),
+        ..quiet
+    };
+    let refuses = |fault: Fault| Act {
+        refuses: Some(fault),
+        ..quiet
+    };
     let steps = [
         (Told::Tick, sends([1, 1, 0, 0, 197, 68], false)),
-        (Told::Frame(&[1, 0, 0, 7, 130, 147]), QUIET),
-        (Told::ButtonDown, QUIET),
-        (Told::Tick, SPEAKS),
-        (Told::Tick, SPEAKS),
-        (Told::Frame(&[1, 0, 0, 7, 130, 147]), QUIET),
+        (Told::Frame(&[1, 0, 0, 7, 130, 147]), quiet),
+        (Told::ButtonDown, quiet),
+        (Told::Tick, speaks),
+        (Told::Tick, speaks),
+        (Told::Frame(&[1, 0, 0, 7, 130, 147]), quiet),
         (Told::Tick, sends([1, 1, 0, 7, 181, 163], true)),
-        (Told::Tick, QUIET),
+        (Told::Tick, quiet),
         (
             Told::Frame(&[1, 0, 0, 8, 130, 147]),
             refuses(Fault::WrongSum),
@@ -149,9 +167,9 @@ fn a_turn_step_by_step(rt: HostRuntime) -> Result<(), Fail> {
             Told::Frame(&[1, 1, 0, 7, 181, 163]),
             refuses(Fault::WrongSender),
         ),
-        (Told::ButtonUp, QUIET),
-        (Told::Tick, QUIET),
-        (Told::Tick, QUIET),
+        (Told::ButtonUp, quiet),
+        (Told::Tick, quiet),
+        (Told::Tick, quiet),
         (Told::Tick, sends([1, 1, 0, 7, 181, 163], false)),
     ];
     for (told, act) in steps {
@@ -159,7 +177,7 @@ fn a_turn_step_by_step(rt: HostRuntime) -> Result<(), Fail> {
         assert_eq!(rt; done, act);
         post = after;
     }
-    assert_eq!(rt; post.memory, remembered(&[7, 7, 0, 3], 1, 4));
+    assert_eq!(rt; post.memory, remembered([7, 7, 0, 3], 1, 4));
     Ok(())
 }
 
@@ -167,11 +185,11 @@ fn a_turn_step_by_step(rt: HostRuntime) -> Result<(), Fail> {
 fn places_and_bytes(rt: HostRuntime) -> Result<(), Fail> {
     let settings = read_settings(&TWO_POSTS)?;
     let bytes = [1, 2, 3, 4, 5, 6, 7, 8, 9, 10, 11, 12, 255, 255, 255, 255];
-    let memory = remembered(&[258, 772, 1286, 1800], 151_653_132, 4_294_967_295);
+    let memory = remembered([258, 772, 1286, 1800], 151_653_132, 4_294_967_295);
     assert_eq!(rt; Memory::from_bytes(bytes), memory);
     assert_eq!(rt; memory.to_bytes(), bytes);
     assert_eq!(rt; Post::new(2, memory, &settings), Err(Fault::OutOfRange));
-    let mut post = Post::new(1, remembered(&[0, 7, 1000, 2], 0, 0), &settings)?;
+    let mut post = Post::new(1, remembered([0, 7, 1000, 2], 0, 0), &settings)?;
     assert_eq!(rt; post.ticks_to_sending(), 3);
     assert_eq!(rt; post.ticks_to_moving(&settings), Some(0));
     post.button = true;
