@@ -2,6 +2,7 @@
 pub mod Bytes
 pub mod Norms
 pub mod Counts
+pub mod Thens
 pub mod Ticks
 pub mod Hearing
 pub mod MemberSteps

@@ -80,16 +80,10 @@ impl Post {
         let deeds = self.deeds(settings);
         let memory = self.memory.tick(self.seat(settings), deeds);
         let post = Post { memory, ..self };
-        // `deeds.sends.then(..)` was tried: nothing is known of the frame that its closure gives, so the proof didn't close
-        let sends = if deeds.sends {
-            Some(post.frame(settings))
-        } else {
-            None
-        };
         let act = Act {
             speaks: deeds.speaks,
             moves: deeds.moves,
-            sends,
+            sends: deeds.sends.then(|| post.frame(settings)),
             refuses: None,
         };
         (post, act)
