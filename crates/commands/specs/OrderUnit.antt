@@ -1,6 +1,6 @@
 -- Orders as units of bytes: the kind 3, the post that an order is for, what it is to do, and for some orders what follows.
 -- Assumes nothing.
-use Rattle.std.specs.Prelude.{◌≡◌, ℕ, ◌<◌, Bool, cond, ◌&&◌, List, [], ◌∷◌, length, replicate, None, Option, ◌==◌, nat_le, nat_lt, slice_index}
+use Rattle.std.specs.Prelude.{◌≡◌, ℕ, ◌<◌, cond, ◌&&◌, List, [], ◌∷◌, length, replicate, None, Option, ◌==◌, nat_le, nat_lt, slice_index}
 use Rattle.lines.specs.declared.fault.Fault.{Fault}
 use Rattle.lines.specs.declared.fault.Fault.TheVariants.{Malformed, OutOfRange}
 use Rattle.lines.specs.Checks.{Check}
@@ -37,10 +37,6 @@ order_bytes c = 3 ∷ c.post ∷ what_of c.order ∷ content_of c.order
 -- how many bytes follow the number of an order
 abbrev pub following : ℕ → ℕ
 following what = cond (what == 4) 16 (cond (what == 5) 6 0)
-
--- the number of an order that nothing follows
-abbrev pub is_plain : ℕ → Bool
-is_plain what = (nat_le 1 what && nat_le what 8) && following what == 0
 
 -- one of n posts
 abbrev pub post_below : ℕ → Field

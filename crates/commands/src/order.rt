@@ -4,7 +4,7 @@ ghost use Rattle.std.specs.Result.{result_err};
 ghost use Rattle.lines.specs.declared.fault.Fault.TheVariants.{Malformed};
 ghost use Rattle.lines.specs.Checks.{first_fault, IsFirstFault};
 ghost use Rattle.lines.specs.Units.{reading_fault};
-ghost use Rattle.commands.specs.OrderUnit.{is_plain, what_of, content_of, order_bytes, what_fields, order_checks, AcceptsOrders};
+ghost use Rattle.commands.specs.OrderUnit.{what_of, content_of, order_bytes, what_fields, order_checks, AcceptsOrders};
 
 use frames::Settings;
 use lines::Fault;
@@ -36,53 +36,27 @@ pub struct Command {
     pub order: Order,
 }
 
-// The order, where nothing follows its number.
-fn alone(order: Order, content: &[u8]) -> Result<Order, Fault>
-    ensures { result ≡ (if nat_eq (length content.now) 0 then Ok order else Err Malformed) }
-{
-    if content.is_empty() {
-        Ok(order)
-    } else {
-        Err(Fault::Malformed)
-    }
-}
-
-// The order that has this number and nothing after it, where there is one.
-fn plain_order(what: u8) -> Option<Order>
-    ensures { MatchOption result (is_plain what ≡ false) (λ o. (is_plain what ≡ true) × (what_of o ≡ what) × (content_of o ≡ [])) }
-{
-    match what {
-        1 => Some(Order::Tick),
-        2 => Some(Order::Hear),
-        3 => Some(Order::Lose),
-        6 => Some(Order::ButtonDown),
-        7 => Some(Order::ButtonUp),
-        8 => Some(Order::Show),
-        _ => None,
-    }
-}
-
 // What is to be done, by its number and what follows.
 fn read_what(bytes: &[u8]) -> Result<Order, Fault>
     ensures fault { result_err result ≡ reading_fault (what_fields (slice_index bytes.now 0)) bytes.now }
     ensures value { IfOk result (λ o. what_of o ∷ content_of o ≡ bytes.now) }
 {
-    let [what, content @ ..] = bytes else {
-        return Err(Fault::Malformed);
-    };
-    match *what {
-        4 => match <[u8; 16]>::try_from(content) {
-            Ok(memory) => Ok(Order::Memory(memory)),
-            Err(_) => Err(Fault::Malformed),
-        },
-        5 => match <[u8; 6]>::try_from(content) {
-            Ok(frame) => Ok(Order::Frame(frame)),
-            Err(_) => Err(Fault::Malformed),
-        },
-        number => match plain_order(number) {
-            Some(order) => alone(order, content),
-            None => Err(Fault::Malformed),
-        },
+    match bytes {
+        [1] => Ok(Order::Tick),
+        [2] => Ok(Order::Hear),
+        [3] => Ok(Order::Lose),
+        [4, memory @ ..] => memory
+            .try_into()
+            .map(Order::Memory)
+            .map_err(|_| Fault::Malformed),
+        [5, frame @ ..] => frame
+            .try_into()
+            .map(Order::Frame)
+            .map_err(|_| Fault::Malformed),
+        [6] => Ok(Order::ButtonDown),
+        [7] => Ok(Order::ButtonUp),
+        [8] => Ok(Order::Show),
+        _ => Err(Fault::Malformed),
     }
 }
 
@@ -94,13 +68,7 @@ pub fn read_order(bytes: &[u8], settings: &Settings) -> Result<Command, Fault>
     ensures below { IfOk result (λ o. o.post < settings.now.posts) }
     ensures complete { AcceptsOrders settings.now.posts bytes.now (result_err result) }
 {
-    let [kind, rest @ ..] = bytes else {
-        return Err(Fault::Malformed);
-    };
-    if *kind != KIND {
-        return Err(Fault::Malformed);
-    }
-    let [post, rest @ ..] = rest else {
+    let [KIND, post, rest @ ..] = bytes else {
         return Err(Fault::Malformed);
     };
     if *post >= settings.posts {

@@ -38,7 +38,7 @@ pub fn read_place(bytes: &[u8], settings: &Settings) -> Result<u8, Fault>
     }
 }
 
-// What is to be done, by its number.
+// What is to be done, by its number, which is that of the same order to a ring; to go by `Order` would be no shorter.
 fn read_post_what(bytes: &[u8]) -> Result<PostOrder, Fault>
     ensures fault { result_err result ≡ reading_fault (post_what_field ∷ []) bytes.now }
     ensures value { IfOk result (λ o. post_what o ∷ [] ≡ bytes.now) }
@@ -58,13 +58,7 @@ pub fn read_post_order(bytes: &[u8], place: u8) -> Result<PostOrder, Fault>
     ensures first { IsFirstFault (post_order_checks place bytes.now) (result_err result) }
     ensures value { IfOk result (λ o. post_order_bytes place o ≡ bytes.now) }
 {
-    let [kind, rest @ ..] = bytes else {
-        return Err(Fault::Malformed);
-    };
-    if *kind != KIND {
-        return Err(Fault::Malformed);
-    }
-    let [post, rest @ ..] = rest else {
+    let [KIND, post, rest @ ..] = bytes else {
         return Err(Fault::Malformed);
     };
     if *post != place {

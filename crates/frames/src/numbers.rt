@@ -18,8 +18,9 @@ pub fn read_numbers(heap: Global, bytes: &[u8], settings: &Settings) -> Result<V
     ensures len { IfOk result (λ v. vec_len v ≡ 3 * settings.now.posts) }
     ensures below { IfOk result (λ v. AllByRecursion (λ x. x < settings.now.k) v.items) }
 {
+    // an array and no vector: a fault is to be found also where there is no memory
     let mut places = [0; 63];
-    let numbers = &mut places[0..settings.members()];
+    let numbers = &mut places[..settings.members()];
     read_words(bytes, numbers, settings.k - 1, Fault::NumberTooLarge)?;
     Ok(Vec::from_slice(heap, numbers)?)
 }

@@ -11,7 +11,7 @@ pub struct Settings {
     pub posts: u8,
     // how many numbers there are for a member: 0 to k - 1
     pub k: u16,
-    // for each post how many ticks it may speak, and 0 past the last post
+    // for each post how many ticks it may speak, and 0 past the last post: by value, since settings take no memory
     pub turns: [u16; 21],
     ghost some: { 2 ≤ posts },
     ghost few: { posts ≤ 21 },

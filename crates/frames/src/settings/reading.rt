@@ -46,7 +46,7 @@ fn read_turns(bytes: &[u8], posts: u8) -> Result<[u16; 21], Fault>
     let mut turns = [0; 21];
     read_words(
         bytes,
-        &mut turns[0..usize::from(posts)],
+        &mut turns[..usize::from(posts)],
         LONGEST_TURN,
         Fault::OutOfRange,
     )?;

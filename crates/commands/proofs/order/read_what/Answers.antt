@@ -1,32 +1,25 @@
 -- What `read_what` owes, from the laws of orders. Assumes nothing.
-use Rattle.std.proofs.Common.{get_or, refl, arith}
-use Rattle.std.proofs.lemmas.Bool.{ltb-false}
-use Rattle.commands.proofs.OrderLaws.{plain_known, what_alone, what_unknown, what_whole}
+use Rattle.std.proofs.Common.{◌≡◌, ◌≤◌, eqb, cond, length, get_or, Some, None, sym, refl, ◌∙◌, arith}
+use Rattle.std.specs.Result.{result_err}
+use Rattle.std.proofs.lemmas.Grind.{common_steps}
+use Rattle.std.proofs.lemmas.Bool.Decides.{nat_tests}
+use Rattle.lines.specs.declared.fault.Fault.TheVariants.{Malformed}
+use Rattle.lines.proofs.UnitSteps.{rest_after}
+use Rattle.commands.proofs.OrderLaws.{what_left}
 use Rattle.commands.proofs.order.read_what.Goals as goal
 
-pub returns-in-Some : goal.returns-in-Some
-returns-in-Some c =
-    let w = get_or c.args.bytes.now 0 0 in
-    let o = c.in-Some.ensures in
-    let k = plain_known w o.0 in
-    let p = what_alone c.args.bytes.now w (omega (arith, ltb-false)) refl k.0 c.in-Some.order c.alone.result o.1 o.2 k.1 c.alone.ensures in
-    record { fault = p.0; value = p.1 }
+pub returns-in-4-clause-fault : goal.returns-in-4-clause-fault
+returns-in-4-clause-fault c =
+    let bs = c.args.bytes.now in
+    let there : 1 ≤ length bs = grind arith in
+    let is : get_or bs 0 0 ≡ 4 = grind arith in
+    let e : result_err c.map_err-in-4.result ≡ cond (eqb (length (rest_after 1 bs)) 16) None (Some Malformed) = grind (arith, common_steps, nat_tests) in
+    e ∙ sym (what_left bs 4 there is refl)
 
-pub returns-in-None : goal.returns-in-None
-returns-in-None c =
-    record {
-      fault = what_unknown c.args.bytes.now (omega (arith, ltb-false)) (λ e. omega (arith, ltb-false)) (λ e. omega (arith, ltb-false)) c.in-None.ensures;
-      value = tt;
-    }
-
-pub returns-in-Ok : goal.returns-in-Ok
-returns-in-Ok c =
-    let whole = c.in-Ok.ensures in
-    let p = what_whole c.args.bytes.now 4 (omega (arith, ltb-false)) c.in-4.is refl c.in-Ok.memory whole.1.same whole.1.long in
-    record { fault = p.0; value = p.1 }
-
-pub returns-in-Ok-try_from : goal.returns-in-Ok-try_from
-returns-in-Ok-try_from c =
-    let whole = c.in-Ok-try_from.ensures in
-    let p = what_whole c.args.bytes.now 5 (omega (arith, ltb-false)) c.in-5.is refl c.in-Ok-try_from.frame whole.1.same whole.1.long in
-    record { fault = p.0; value = p.1 }
+pub returns-in-5-clause-fault : goal.returns-in-5-clause-fault
+returns-in-5-clause-fault c =
+    let bs = c.args.bytes.now in
+    let there : 1 ≤ length bs = grind arith in
+    let is : get_or bs 0 0 ≡ 5 = grind arith in
+    let e : result_err c.map_err.result ≡ cond (eqb (length (rest_after 1 bs)) 6) None (Some Malformed) = grind (arith, common_steps, nat_tests) in
+    e ∙ sym (what_left bs 5 there is refl)

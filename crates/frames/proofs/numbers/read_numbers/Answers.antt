@@ -2,6 +2,7 @@
 use Rattle.std.proofs.Common.{◌≡◌, ℕ, ◌-◌, ◌*◌, ◌<◌, ◌≤◌, List, length, take, replicate, Some, None, vec_items, vec_len, Option, sym, ap, ◌∙◌, subst, arith}
 use Rattle.std.specs.List.{AllByRecursion}
 use Rattle.std.proofs.ByRecursion.{All-weaker}
+use Rattle.std.proofs.lemmas.List.{length-take-le}
 use Rattle.std.proofs.lemmas.Result.{err_from_is_err_and}
 use Rattle.lines.specs.declared.fault.Fault.{Fault}
 use Rattle.lines.specs.declared.fault.Fault.TheVariants.{NumberTooLarge}
@@ -10,20 +11,24 @@ use Rattle.lines.specs.Units.{reading_fault}
 use Rattle.lines.specs.Words.{words_bytes}
 use Rattle.lines.proofs.FirstFault.{is_first}
 use Rattle.lines.proofs.Reading.{reading_first}
-use Rattle.lines.proofs.WordSteps.{lent_places, words_laid}
+use Rattle.lines.proofs.WordSteps.{words_laid}
 use Rattle.frames.specs.declared.settings.Settings.{Settings}
 use Rattle.frames.specs.NumbersUnit.{member_number, numbers_fields, numbers_checks}
 use Rattle.frames.proofs.numbers.read_numbers.Goals as goal
 
 -- how many places are lent where so many members are asked for
 places : ℕ → ℕ
-places n = length (take (n - 0) (replicate {A = ℕ} 63 0))
+places n = length (take n (replicate {A = ℕ} 63 0))
+
+places_are : (s : Settings) (n : ℕ) → n ≡ 3 * s.posts → places n ≡ 3 * s.posts
+unfolding places
+places_are s n e = length-take-le n (replicate {A = ℕ} 63 0) (omega (arith, s.few)) ∙ e
 
 told_first : (s : Settings) (bs : List ℕ) (n : ℕ) (o : Option Fault) → n ≡ 3 * s.posts →
     o ≡ reading_fault (replicate (places n) (member_number s.k)) bs → o ≡ first_fault (numbers_checks s bs)
 unfolding places
 told_first s bs n o e h =
-    h ∙ ap (λ m. reading_fault (replicate m (member_number s.k)) bs) (lent_places 63 n (3 * s.posts) e (omega (arith, s.few)))
+    h ∙ ap (λ m. reading_fault (replicate m (member_number s.k)) bs) (places_are s n e)
     ∙ sym (reading_first bs (numbers_fields s) (words_laid NumberTooLarge (s.k - 1) (3 * s.posts)))
 
 pub returns-in_err-read_words : goal.returns-in_err-read_words
@@ -59,6 +64,6 @@ returns c =
       fault = e;
       first = is_first _ _ e;
       value = ap words_bytes copied ∙ bytes;
-      len = long ∙ kept ∙ lent_places 63 c.members.result (3 * s.posts) c.members.ensures (omega (arith, s.few));
+      len = long ∙ kept ∙ places_are s c.members.result c.members.ensures;
       below = subst (AllByRecursion (λ x. x < s.k)) (sym copied) (All-weaker _ _ (λ x h. omega (arith, s.some, s.enough)) words below);
     }
