@@ -5,18 +5,14 @@ ghost use Rattle.members.specs.Ring.{how_many, may};
 ghost use Rattle.ring.specs.Tallies.{Counted, anew, begun, held_near, noted, one_more};
 
 use crate::Tally;
-use members::guard_holds;
+use members::{has_token, member_after};
 
 // 1 where member `i` may move, else 0.
 fn held(numbers: &[u16], i: usize) -> usize
     requires { i < length numbers.now }
     ensures { (k : ℕ) → result ≡ (if may (ring_of k numbers.now) numbers.now i then 1 else 0) }
 {
-    let before = match i {
-        0 => numbers[numbers.len() - 1],
-        _ => numbers[i - 1],
-    };
-    usize::from(guard_holds(i, before, numbers[i]))
+    usize::from(has_token(numbers, i).unwrap_or(false))
 }
 
 // How many of member `j` and the one after it may move.
@@ -24,8 +20,7 @@ fn held_near(numbers: &[u16], j: usize) -> usize
     requires { j < length numbers.now }
     ensures { (k : ℕ) → result ≡ held_near (ring_of k numbers.now) numbers.now j }
 {
-    let next = if j + 1 < numbers.len() { j + 1 } else { 0 };
-    held(numbers, j) + held(numbers, next)
+    held(numbers, j) + held(numbers, member_after(numbers.len(), j))
 }
 
 // Gives member `j` another number, and says how many may move then, of which there were `holders`: the guards of two members only can change.

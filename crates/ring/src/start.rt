@@ -10,7 +10,7 @@ ghost use Rattle.ring.specs.Tallies.{anew};
 use crate::machine::number_on;
 use crate::{Line, PlayError, Tally};
 use frames::Settings;
-use members::how_many_may;
+use members::{how_many_may, member_after};
 use posts::{Post, in_range};
 
 // Whether each post stands in its place.
@@ -34,10 +34,7 @@ fn member_number(settings: &Settings, posts: &[Post], lines: &[Line], j: usize) 
     match j % 3 {
         0 => in_range(posts[i].memory.number, k),
         1 => number_on(lines[i].frame, k),
-        _ => {
-            let next = if i + 1 < posts.len() { i + 1 } else { 0 };
-            in_range(posts[next].memory.heard, k)
-        }
+        _ => in_range(posts[member_after(posts.len(), i)].memory.heard, k),
     }
 }
 
