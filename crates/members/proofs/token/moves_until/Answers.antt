@@ -7,8 +7,8 @@ use Rattle.members.proofs.Runs.{turn_after}
 use Rattle.members.proofs.States.{alone_healed, counted_two}
 use Rattle.members.proofs.token.moves_until.Goals as goal
 
-pub turns_between-requires-clause-holder_there : goal.turns_between-requires-clause-holder_there
-turns_between-requires-clause-holder_there c = (c.in-One.ensures c.args.k).there
+pub turns_between-requires : goal.turns_between-requires
+turns_between-requires c = let l = (c.in-One.ensures c.args.k).there in record { holder_there = omega arith; member_there = omega arith }
 
 pub returns-in-One : goal.returns-in-One
 returns-in-One c =
