@@ -1,6 +1,6 @@
+// Examples of lines, faults and units. Assumes nothing.
 #![tactic(auto)]
 
-// Examples of lines, faults and units. Assumes nothing.
 #[cfg(test)]
 mod tests;
 #[cfg(test)]

@@ -1,4 +1,5 @@
 // The rule of faults, the text of lines, settings and numbers on examples. Assumes nothing.
+use frames::Fault::{Malformed, NumberTooLarge, OutOfRange, WrongSender, WrongSum};
 use frames::*;
 use inputs::next_unit;
 use lines::{first_line, read_first_line, read_three};
@@ -6,69 +7,61 @@ use std::alloc::AllocError;
 use std::io::BufReader;
 use std::test::Fail;
 
-// The number of a fault, or 0 where there is none.
-pub fn number_of<T: Drop>(answer: Result<T, Fault>) -> u8 {
-    match answer {
-        Ok(_) => 0,
-        Err(fault) => fault.number(),
-    }
-}
-
 fn settings_on(text: &[u8], bytes: &mut Vec<u8>) -> Result<Result<Settings, Fault>, AllocError> {
     let ending = read_line(text, bytes)?;
     Ok(ending.settle(read_settings(bytes)))
 }
 
-// Settings on a line, and the number of the fault, or 0.
-const SETTINGS: [(&[u8], u8); 32] = [
-    (b"02 02 00 06 00 00 00 00", 0),
-    (b"02 02 ff FF 03 e8 03 E8 # the largest K and turns", 0),
+// Settings on a line, and the fault, if there is one.
+const SETTINGS: [(&[u8], Option<Fault>); 32] = [
+    (b"02 02 00 06 00 00 00 00", None),
+    (b"02 02 ff FF 03 e8 03 E8 # the largest K and turns", None),
     (
         b"0215003f000000000000000000000000000000000000000000000000000000000000000000000000000000000000",
-        0,
+        None,
     ),
     (
         b"0215003e000000000000000000000000000000000000000000000000000000000000000000000000000000000000",
-        2,
+        Some(OutOfRange),
     ),
     (
         b"0215003f0000000000000000000000000000000000000000000000000000000000000000000000000000000003e9",
-        2,
+        Some(OutOfRange),
     ),
-    (b"02 00 00 00", 2),
-    (b"02 01 00 03 00 00", 2),
-    (b"02 16 00 42", 2),
-    (b"02 ff ff ff", 2),
-    (b"02 02 00 05 00 00 00 00", 2),
-    (b"02 02 00 06 03 e8 03 e9", 2),
-    (b"02 02 00 06 03 e9 03 e8", 2),
-    (b"01 02 00 06 00 00 00 00", 1),
-    (b"03 02 00 06 00 00 00 00", 1),
-    (b"", 1),
-    (b"02", 1),
-    (b"02 02", 1),
-    (b"02 02 00", 1),
-    (b"02 02 00 06", 1),
-    (b"02 02 00 06 00 00 00", 1),
-    (b"02 02 00 06 00 00 00 00 00", 1),
-    (b"01 16", 1),
-    (b"02 16", 2),
-    (b"02 02 00 05", 2),
-    (b"02 02 00 06 00 00 03 e9 00", 2),
-    (b"02 16 zz", 2),
-    (b"zz 02", 1),
-    (b"02 02 zz", 1),
-    (b"02 02 00 zz", 1),
-    (b"02 02 00 05 zz", 2),
-    (b"02 02 00 06 03 e9 z", 2),
-    (b"02 02 00 06 00 00 00 00 0", 1),
+    (b"02 00 00 00", Some(OutOfRange)),
+    (b"02 01 00 03 00 00", Some(OutOfRange)),
+    (b"02 16 00 42", Some(OutOfRange)),
+    (b"02 ff ff ff", Some(OutOfRange)),
+    (b"02 02 00 05 00 00 00 00", Some(OutOfRange)),
+    (b"02 02 00 06 03 e8 03 e9", Some(OutOfRange)),
+    (b"02 02 00 06 03 e9 03 e8", Some(OutOfRange)),
+    (b"01 02 00 06 00 00 00 00", Some(Malformed)),
+    (b"03 02 00 06 00 00 00 00", Some(Malformed)),
+    (b"", Some(Malformed)),
+    (b"02", Some(Malformed)),
+    (b"02 02", Some(Malformed)),
+    (b"02 02 00", Some(Malformed)),
+    (b"02 02 00 06", Some(Malformed)),
+    (b"02 02 00 06 00 00 00", Some(Malformed)),
+    (b"02 02 00 06 00 00 00 00 00", Some(Malformed)),
+    (b"01 16", Some(Malformed)),
+    (b"02 16", Some(OutOfRange)),
+    (b"02 02 00 05", Some(OutOfRange)),
+    (b"02 02 00 06 00 00 03 e9 00", Some(OutOfRange)),
+    (b"02 16 zz", Some(OutOfRange)),
+    (b"zz 02", Some(Malformed)),
+    (b"02 02 zz", Some(Malformed)),
+    (b"02 02 00 zz", Some(Malformed)),
+    (b"02 02 00 05 zz", Some(OutOfRange)),
+    (b"02 02 00 06 03 e9 z", Some(OutOfRange)),
+    (b"02 02 00 06 00 00 00 00 0", Some(Malformed)),
 ];
 
 #[test]
 fn settings_are_refused_at_the_first_fault(rt: HostRuntime) -> Result<(), Fail> {
     let mut bytes = Vec::new(rt.alloc());
     for (text, fault) in SETTINGS {
-        assert_eq!(rt; number_of(settings_on(text, &mut bytes)?), fault);
+        assert_eq!(rt; settings_on(text, &mut bytes)?.err(), fault);
     }
     Ok(())
 }
@@ -205,54 +198,74 @@ fn lines_that_hold_nothing_are_passed_over(rt: HostRuntime) -> Result<(), Fail> 
 }
 
 // Texts, and the bytes of the first line where it is three of them, with one blank between and a newline; otherwise none.
-const THREES: [(&[u8], &[u8]); 16] = [
-    (b"03 05 01\n", b"\x03\x05\x01"),
-    (b"fF 0a A0\n03 05 01\n", b"\xff\x0a\xa0"),
-    (b"00 90 09\nzz", b"\x00\x90\x09"),
-    (b"", b""),
-    (b"03 05 01", b""),
-    (b"03 05 01 \n", b""),
-    (b"03 05 01\r\n", b""),
-    (b"03 05 01#\n", b""),
-    (b"03 05 01 02\n", b""),
-    (b"03\t05 01\n", b""),
-    (b"03 05\n01\n", b""),
-    (b"030501\n00", b""),
-    (b"g3 05 01\n", b""),
-    (b"03 0g 01\n", b""),
-    (b"03 05 0 \n", b""),
-    (b" 3 05 01\n", b""),
+const THREES: [(&[u8], Option<[u8; 3]>); 16] = [
+    (b"03 05 01\n", Some([0x03, 0x05, 0x01])),
+    (b"fF 0a A0\n03 05 01\n", Some([0xff, 0x0a, 0xa0])),
+    (b"00 90 09\nzz", Some([0x00, 0x90, 0x09])),
+    (b"", None),
+    (b"03 05 01", None),
+    (b"03 05 01 \n", None),
+    (b"03 05 01\r\n", None),
+    (b"03 05 01#\n", None),
+    (b"03 05 01 02\n", None),
+    (b"03\t05 01\n", None),
+    (b"03 05\n01\n", None),
+    (b"030501\n00", None),
+    (b"g3 05 01\n", None),
+    (b"03 0g 01\n", None),
+    (b"03 05 0 \n", None),
+    (b" 3 05 01\n", None),
 ];
 
 #[test]
 fn three_bytes_are_read_where_nothing_else_is_on_the_line(rt: HostRuntime) {
     for (text, expected) in THREES {
-        match read_three(text) {
-            Some(bytes) => assert_eq!(rt; bytes.as_slice(), expected),
-            None => assert_eq!(rt; expected.len(), 0),
-        }
+        assert_eq!(rt; read_three(text), expected);
     }
 }
 
-// The number of the fault for which a list of numbers on a line that ended so is refused, 0 where it is not.
-fn refused(answer: Result<Vec<u16>, ReadError>, ending: Ending) -> Result<u8, ReadError> {
+// The fault for which a list of numbers on a line that ended so is refused, if it is.
+fn refused(
+    answer: Result<Vec<u16>, ReadError>,
+    ending: Ending,
+) -> Result<Option<Fault>, ReadError> {
     match ending.settle_read(answer) {
-        Ok(_) => Ok(0),
-        Err(ReadError::Refused(fault)) => Ok(fault.number()),
+        Ok(_) => Ok(None),
+        Err(ReadError::Refused(fault)) => Ok(Some(fault)),
         Err(ReadError::Memory) => Err(ReadError::Memory),
     }
 }
 
-// Numbers of two posts with K = 6, and the number of the fault on a whole line and on a damaged one, or 0.
-const NUMBERS: [(&[u8], u8, u8); 8] = [
-    (&[0, 0, 0, 1, 0, 2, 0, 3, 0, 4, 0, 5], 0, 1),
-    (&[0, 6, 0, 0, 0, 0, 0, 0, 0, 0, 0, 0], 5, 5),
-    (&[0, 0, 0, 0, 0, 0, 0, 0, 0, 0, 1, 0], 5, 5),
-    (&[0, 0, 0, 1, 0, 2, 0, 3, 0, 4, 0], 1, 1),
-    (&[0, 0, 0, 1, 0, 2, 0, 3, 0, 4, 0, 5, 0], 1, 1),
-    (&[], 1, 1),
-    (&[0, 0, 0, 6, 0], 5, 5),
-    (&[0, 0, 0, 1, 0, 2, 0, 3, 0, 4, 0, 6, 0], 5, 5),
+// Numbers of two posts with K = 6, and the fault on a whole line and on a damaged one, if there is one.
+const NUMBERS: [(&[u8], Option<Fault>, Option<Fault>); 8] = [
+    (&[0, 0, 0, 1, 0, 2, 0, 3, 0, 4, 0, 5], None, Some(Malformed)),
+    (
+        &[0, 6, 0, 0, 0, 0, 0, 0, 0, 0, 0, 0],
+        Some(NumberTooLarge),
+        Some(NumberTooLarge),
+    ),
+    (
+        &[0, 0, 0, 0, 0, 0, 0, 0, 0, 0, 1, 0],
+        Some(NumberTooLarge),
+        Some(NumberTooLarge),
+    ),
+    (
+        &[0, 0, 0, 1, 0, 2, 0, 3, 0, 4, 0],
+        Some(Malformed),
+        Some(Malformed),
+    ),
+    (
+        &[0, 0, 0, 1, 0, 2, 0, 3, 0, 4, 0, 5, 0],
+        Some(Malformed),
+        Some(Malformed),
+    ),
+    (&[], Some(Malformed), Some(Malformed)),
+    (&[0, 0, 0, 6, 0], Some(NumberTooLarge), Some(NumberTooLarge)),
+    (
+        &[0, 0, 0, 1, 0, 2, 0, 3, 0, 4, 0, 6, 0],
+        Some(NumberTooLarge),
+        Some(NumberTooLarge),
+    ),
 ];
 
 #[test]
@@ -276,6 +289,15 @@ fn numbers_are_refused_at_the_first_fault(rt: HostRuntime) -> Result<(), Fail> {
 
 #[test]
 fn faults_have_numbers(rt: HostRuntime) -> Result<(), Fail> {
+    for (fault, number) in [
+        (Malformed, 1),
+        (OutOfRange, 2),
+        (WrongSum, 3),
+        (WrongSender, 4),
+        (NumberTooLarge, 5),
+    ] {
+        assert_eq!(rt; fault.number(), number);
+    }
     let text = Fault::WrongSender.to_string(rt.alloc())?;
     assert_eq!(rt; text.as_str(), "fault 4");
     Ok(())

@@ -1,6 +1,6 @@
 // Checksums, frames, orders, places and their text on examples. Assumes nothing.
-use crate::tests::number_of;
 use commands::*;
+use frames::Fault::{Malformed, NumberTooLarge, OutOfRange, WrongSender, WrongSum};
 use frames::*;
 use std::test::Fail;
 use sums::shift;
@@ -44,46 +44,46 @@ fn a_checksum_is_made_bit_by_bit(rt: HostRuntime) {
     }
 }
 
-// Frames on a line, the listener, and the number of the fault, or 0.
-const FRAMES: [(&[u8], u8, u8); 38] = [
-    (b"01 01 00 00 c5 44", 0, 0),
-    (b"01 01 00 05 95 e1", 0, 0),
-    (b"01 00 00 05 a2 d1", 1, 0),
-    (b"01 01 00 00 c5 44", 2, 0),
-    (b"00 01 00 00 b3 f0", 0, 1),
-    (b"02 01 00 00 5e 98", 0, 1),
-    (b"03 01 00 00 28 2c", 0, 1),
-    (b"", 0, 1),
-    (b"01", 0, 1),
-    (b"01 01", 0, 1),
-    (b"01 01 00", 0, 1),
-    (b"01 01 00 00", 0, 1),
-    (b"01 01 00 00 c5", 0, 1),
-    (b"01 01 00 00 c5 44 00", 0, 1),
-    (b"01 02 00 00 9c 14", 0, 2),
-    (b"01 ff 00 00 3d 17", 0, 2),
-    (b"01 02 00 00 9c 14", 3, 2),
-    (b"01 01 00 00 c5 45", 0, 3),
-    (b"01 01 00 00 45 44", 0, 3),
-    (b"01 01 00 01 c5 44", 0, 3),
-    (b"01 00 00 00 f2 74", 0, 4),
-    (b"01 01 00 00 c5 44", 1, 4),
-    (b"01 01 00 00 c5 44", 3, 4),
-    (b"01 01 00 06 a5 82", 0, 5),
-    (b"01 01 00 07 b5 a3", 0, 5),
-    (b"01 01 ff ff d8 4b", 0, 5),
-    (b"02 02 00 00 07 c8", 0, 1),
-    (b"02", 0, 1),
-    (b"01 02", 0, 2),
-    (b"01 02 00 06 fc d2", 0, 2),
-    (b"01 00", 0, 4),
-    (b"01 00 00 06 92 b2", 0, 4),
-    (b"01 01 00 06", 0, 5),
-    (b"01 01 00 06 00 00", 0, 5),
-    (b"01 01 00 00 00 00 00", 0, 3),
-    (b"01 01 00 zz", 0, 1),
-    (b"01 01 00 06 z", 0, 5),
-    (b"01 01 00 00 c5 44 #\r", 0, 0),
+// Frames on a line, the listener, and the fault, if there is one.
+const FRAMES: [(&[u8], u8, Option<Fault>); 38] = [
+    (b"01 01 00 00 c5 44", 0, None),
+    (b"01 01 00 05 95 e1", 0, None),
+    (b"01 00 00 05 a2 d1", 1, None),
+    (b"01 01 00 00 c5 44", 2, None),
+    (b"00 01 00 00 b3 f0", 0, Some(Malformed)),
+    (b"02 01 00 00 5e 98", 0, Some(Malformed)),
+    (b"03 01 00 00 28 2c", 0, Some(Malformed)),
+    (b"", 0, Some(Malformed)),
+    (b"01", 0, Some(Malformed)),
+    (b"01 01", 0, Some(Malformed)),
+    (b"01 01 00", 0, Some(Malformed)),
+    (b"01 01 00 00", 0, Some(Malformed)),
+    (b"01 01 00 00 c5", 0, Some(Malformed)),
+    (b"01 01 00 00 c5 44 00", 0, Some(Malformed)),
+    (b"01 02 00 00 9c 14", 0, Some(OutOfRange)),
+    (b"01 ff 00 00 3d 17", 0, Some(OutOfRange)),
+    (b"01 02 00 00 9c 14", 3, Some(OutOfRange)),
+    (b"01 01 00 00 c5 45", 0, Some(WrongSum)),
+    (b"01 01 00 00 45 44", 0, Some(WrongSum)),
+    (b"01 01 00 01 c5 44", 0, Some(WrongSum)),
+    (b"01 00 00 00 f2 74", 0, Some(WrongSender)),
+    (b"01 01 00 00 c5 44", 1, Some(WrongSender)),
+    (b"01 01 00 00 c5 44", 3, Some(WrongSender)),
+    (b"01 01 00 06 a5 82", 0, Some(NumberTooLarge)),
+    (b"01 01 00 07 b5 a3", 0, Some(NumberTooLarge)),
+    (b"01 01 ff ff d8 4b", 0, Some(NumberTooLarge)),
+    (b"02 02 00 00 07 c8", 0, Some(Malformed)),
+    (b"02", 0, Some(Malformed)),
+    (b"01 02", 0, Some(OutOfRange)),
+    (b"01 02 00 06 fc d2", 0, Some(OutOfRange)),
+    (b"01 00", 0, Some(WrongSender)),
+    (b"01 00 00 06 92 b2", 0, Some(WrongSender)),
+    (b"01 01 00 06", 0, Some(NumberTooLarge)),
+    (b"01 01 00 06 00 00", 0, Some(NumberTooLarge)),
+    (b"01 01 00 00 00 00 00", 0, Some(WrongSum)),
+    (b"01 01 00 zz", 0, Some(Malformed)),
+    (b"01 01 00 06 z", 0, Some(NumberTooLarge)),
+    (b"01 01 00 00 c5 44 #\r", 0, None),
 ];
 
 #[test]
@@ -93,50 +93,56 @@ fn frames_are_refused_at_the_first_fault(rt: HostRuntime) -> Result<(), Fail> {
     for (text, listener, fault) in FRAMES {
         let ending = read_line(text, &mut bytes)?;
         let answer = ending.settle(read_frame(&bytes, &settings, listener));
-        assert_eq!(rt; number_of(answer), fault);
+        assert_eq!(rt; answer.err(), fault);
     }
     assert_eq!(rt; read_frame(&write_frame(1, 5), &settings, 0)?, 5);
     Ok(())
 }
 
-// Orders on a line, and the number of the fault, or 0.
-const ORDERS: [(&[u8], u8); 36] = [
-    (b"03 01 01", 0),
-    (b"03 00 08", 0),
-    (b"03 01 04 000102030405060708090a0b0c0d0e0f", 0),
-    (b"03 01 05 000102030405", 0),
-    (b"01 01 01", 1),
-    (b"02 01 01", 1),
-    (b"", 1),
-    (b"03", 1),
-    (b"03 01", 1),
-    (b"03 01 01 00", 1),
-    (b"03 01 02 00", 1),
-    (b"03 01 03 00", 1),
-    (b"03 01 06 00", 1),
-    (b"03 01 07 00", 1),
-    (b"03 01 08 00", 1),
-    (b"03 01 04", 1),
-    (b"03 01 04 00", 1),
-    (b"03 01 04 000102030405", 1),
-    (b"03 01 04 000102030405060708090a0b0c0d0e", 1),
-    (b"03 01 04 000102030405060708090a0b0c0d0e0f00", 1),
-    (b"03 01 05", 1),
-    (b"03 01 05 0001020304", 1),
-    (b"03 01 05 00010203040500", 1),
-    (b"03 01 05 000102030405060708090a0b0c0d0e0f", 1),
-    (b"03 02 01", 2),
-    (b"03 ff 01", 2),
-    (b"03 01 00", 1),
-    (b"03 01 09", 1),
-    (b"03 01 ff", 1),
-    (b"02 02", 1),
-    (b"03 02", 2),
-    (b"03 02 09", 2),
-    (b"03 05 zz", 2),
-    (b"zz 05", 1),
-    (b"03 01 01 zz", 1),
-    (b"03 01 0", 1),
+// Orders on a line, and the fault, if there is one.
+const ORDERS: [(&[u8], Option<Fault>); 36] = [
+    (b"03 01 01", None),
+    (b"03 00 08", None),
+    (b"03 01 04 000102030405060708090a0b0c0d0e0f", None),
+    (b"03 01 05 000102030405", None),
+    (b"01 01 01", Some(Malformed)),
+    (b"02 01 01", Some(Malformed)),
+    (b"", Some(Malformed)),
+    (b"03", Some(Malformed)),
+    (b"03 01", Some(Malformed)),
+    (b"03 01 01 00", Some(Malformed)),
+    (b"03 01 02 00", Some(Malformed)),
+    (b"03 01 03 00", Some(Malformed)),
+    (b"03 01 06 00", Some(Malformed)),
+    (b"03 01 07 00", Some(Malformed)),
+    (b"03 01 08 00", Some(Malformed)),
+    (b"03 01 04", Some(Malformed)),
+    (b"03 01 04 00", Some(Malformed)),
+    (b"03 01 04 000102030405", Some(Malformed)),
+    (b"03 01 04 000102030405060708090a0b0c0d0e", Some(Malformed)),
+    (
+        b"03 01 04 000102030405060708090a0b0c0d0e0f00",
+        Some(Malformed),
+    ),
+    (b"03 01 05", Some(Malformed)),
+    (b"03 01 05 0001020304", Some(Malformed)),
+    (b"03 01 05 00010203040500", Some(Malformed)),
+    (
+        b"03 01 05 000102030405060708090a0b0c0d0e0f",
+        Some(Malformed),
+    ),
+    (b"03 02 01", Some(OutOfRange)),
+    (b"03 ff 01", Some(OutOfRange)),
+    (b"03 01 00", Some(Malformed)),
+    (b"03 01 09", Some(Malformed)),
+    (b"03 01 ff", Some(Malformed)),
+    (b"02 02", Some(Malformed)),
+    (b"03 02", Some(OutOfRange)),
+    (b"03 02 09", Some(OutOfRange)),
+    (b"03 05 zz", Some(OutOfRange)),
+    (b"zz 05", Some(Malformed)),
+    (b"03 01 01 zz", Some(Malformed)),
+    (b"03 01 0", Some(Malformed)),
 ];
 
 #[test]
@@ -146,7 +152,7 @@ fn orders_are_refused_at_the_first_fault(rt: HostRuntime) -> Result<(), Fail> {
     for (text, fault) in ORDERS {
         let ending = read_line(text, &mut bytes)?;
         let answer = ending.settle(read_order(&bytes, &settings));
-        assert_eq!(rt; number_of(answer), fault);
+        assert_eq!(rt; answer.err(), fault);
     }
     Ok(())
 }
@@ -179,44 +185,44 @@ fn orders_say_what_is_to_be_done(rt: HostRuntime) -> Result<(), Fail> {
     Ok(())
 }
 
-// Places, and the number of the fault, or 0.
-const PLACES: [(&[u8], u8); 6] = [
-    (&[0], 0),
-    (&[1], 0),
-    (&[2], 2),
-    (&[255, 0], 2),
-    (&[], 1),
-    (&[1, 0], 1),
+// Places, and the fault, if there is one.
+const PLACES: [(&[u8], Option<Fault>); 6] = [
+    (&[0], None),
+    (&[1], None),
+    (&[2], Some(OutOfRange)),
+    (&[255, 0], Some(OutOfRange)),
+    (&[], Some(Malformed)),
+    (&[1, 0], Some(Malformed)),
 ];
 
-// Orders to the post at place 1, and the number of the fault, or 0.
-const POST_ORDERS: [(&[u8], u8); 16] = [
-    (&[3, 1, 1], 0),
-    (&[3, 1, 2], 1),
-    (&[3, 1, 4], 1),
-    (&[3, 1, 5], 1),
-    (&[3, 1, 6], 0),
-    (&[3, 1, 7], 0),
-    (&[3, 1, 8], 0),
-    (&[3, 1, 9], 1),
-    (&[3, 0, 1], 2),
-    (&[3, 2, 9], 2),
-    (&[3, 2], 2),
-    (&[1, 1, 1], 1),
-    (&[], 1),
-    (&[3], 1),
-    (&[3, 1], 1),
-    (&[3, 1, 1, 0], 1),
+// Orders to the post at place 1, and the fault, if there is one.
+const POST_ORDERS: [(&[u8], Option<Fault>); 16] = [
+    (&[3, 1, 1], None),
+    (&[3, 1, 2], Some(Malformed)),
+    (&[3, 1, 4], Some(Malformed)),
+    (&[3, 1, 5], Some(Malformed)),
+    (&[3, 1, 6], None),
+    (&[3, 1, 7], None),
+    (&[3, 1, 8], None),
+    (&[3, 1, 9], Some(Malformed)),
+    (&[3, 0, 1], Some(OutOfRange)),
+    (&[3, 2, 9], Some(OutOfRange)),
+    (&[3, 2], Some(OutOfRange)),
+    (&[1, 1, 1], Some(Malformed)),
+    (&[], Some(Malformed)),
+    (&[3], Some(Malformed)),
+    (&[3, 1], Some(Malformed)),
+    (&[3, 1, 1, 0], Some(Malformed)),
 ];
 
 #[test]
 fn places_and_orders_to_one_post_are_read(rt: HostRuntime) -> Result<(), Fail> {
     let settings = read_settings(&SETTINGS)?;
     for (bytes, fault) in PLACES {
-        assert_eq!(rt; number_of(read_place(bytes, &settings)), fault);
+        assert_eq!(rt; read_place(bytes, &settings).err(), fault);
     }
     for (bytes, fault) in POST_ORDERS {
-        assert_eq!(rt; number_of(read_post_order(bytes, 1)), fault);
+        assert_eq!(rt; read_post_order(bytes, 1).err(), fault);
     }
     assert_eq!(rt; read_post_order(&[3, 1, 7], 1)?, PostOrder::ButtonUp);
     Ok(())
@@ -233,6 +239,25 @@ fn bytes_are_written_in_lower_case(rt: HostRuntime) -> Result<(), Fail> {
     for (bytes, expected) in cases {
         write_line(bytes, &mut text)?;
         assert_eq!(rt; text.as_str(), expected);
+    }
+    Ok(())
+}
+
+// Places in the ring, and the names of the members there.
+const MEMBERS: [(usize, Member, &str); 6] = [
+    (0, Member::Post(0), "post 0"),
+    (1, Member::Frame(0), "frame 0"),
+    (2, Member::End(0), "end 0"),
+    (3, Member::Post(1), "post 1"),
+    (61, Member::Frame(20), "frame 20"),
+    (62, Member::End(20), "end 20"),
+];
+
+#[test]
+fn members_are_named_by_their_places(rt: HostRuntime) -> Result<(), Fail> {
+    for (place, member, name) in MEMBERS {
+        assert_eq!(rt; Member::from(place), member);
+        assert_eq!(rt; member.to_string(rt.alloc())?.as_str(), name);
     }
     Ok(())
 }
