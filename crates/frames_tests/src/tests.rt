@@ -1,8 +1,8 @@
 // The rule of faults, the text of lines, settings and numbers on examples. Assumes nothing.
 use frames::Fault::{Malformed, NumberTooLarge, OutOfRange, WrongSender, WrongSum};
 use frames::*;
-use inputs::next_unit;
-use lines::{first_line, read_first_line, read_three};
+use inputs::{Stop, Units};
+use lines::{Unit, first_line, read_first_line, read_three};
 use std::alloc::AllocError;
 use std::io::BufReader;
 use std::test::Fail;
@@ -106,7 +106,11 @@ fn lines_are_read_to_the_first_stray_character(rt: HostRuntime) -> Result<(), Fa
         assert_eq!(rt; read_line(text, &mut bytes)?, ending);
         assert_eq!(rt; bytes.as_slice(), expected);
         assert_eq!(rt;
-            ending.is_blank(&bytes),
+            Unit {
+                bytes: &bytes,
+                ending
+            }
+            .is_blank(),
             ending == Ending::Whole && expected.is_empty()
         );
     }
@@ -150,7 +154,11 @@ fn first_lines_are_read_to_the_first_stray_character(rt: HostRuntime) -> Result<
         assert_eq!(rt; after, rest);
         assert_eq!(rt; bytes.as_slice(), expected);
         assert_eq!(rt;
-            ending.is_blank(&bytes),
+            Unit {
+                bytes: &bytes,
+                ending
+            }
+            .is_blank(),
             ending == Ending::Whole && expected.is_empty()
         );
     }
@@ -158,7 +166,8 @@ fn first_lines_are_read_to_the_first_stray_character(rt: HostRuntime) -> Result<
 }
 
 // Texts, their first line, and the text after its newline.
-const PARTED: [(&[u8], &[u8], &[u8]); 5] = [
+const PARTED: [(&[u8], &[u8], &[u8]); 6] = [
+    (b"", b"", b""),
     (b"01", b"01", b""),
     (b"\n", b"", b""),
     (b"01\n", b"01", b""),
@@ -169,7 +178,6 @@ const PARTED: [(&[u8], &[u8], &[u8]); 5] = [
 #[test]
 fn a_text_is_parted_at_its_first_newline(rt: HostRuntime) {
     for (text, line, rest) in PARTED {
-        assert!(rt; !text.is_empty());
         let (front, after) = first_line(text);
         assert_eq!(rt; front, line);
         assert_eq!(rt; after, rest);
@@ -178,22 +186,16 @@ fn a_text_is_parted_at_its_first_newline(rt: HostRuntime) {
 
 #[test]
 fn lines_that_hold_nothing_are_passed_over(rt: HostRuntime) -> Result<(), Fail> {
-    let mut input = BufReader::new(rt.alloc(), b"# first\n\r\n01 02\n \n03 zz".as_slice())?;
-    let mut bytes = Vec::new(rt.alloc());
-    let mut lines = 0;
-    assert_eq!(rt;
-        next_unit(&mut input, &mut bytes, &mut lines)?,
-        Some(Ending::Whole)
-    );
-    assert_eq!(rt; bytes.as_slice(), b"\x01\x02".as_slice());
-    assert_eq!(rt; lines, 3);
-    assert_eq!(rt;
-        next_unit(&mut input, &mut bytes, &mut lines)?,
-        Some(Ending::Damaged)
-    );
-    assert_eq!(rt; bytes.as_slice(), b"\x03".as_slice());
-    assert_eq!(rt; lines, 5);
-    assert_eq!(rt; next_unit(&mut input, &mut bytes, &mut lines)?, None);
+    let text = b"# first\n\r\n01 02\n \n03 zz".as_slice();
+    let mut units = Units::new(rt.alloc(), BufReader::new(rt.alloc(), text)?);
+    assert_eq!(rt; units.next_unit()?, Some(Ending::Whole));
+    assert_eq!(rt; units.unit(Ending::Whole).bytes, b"\x01\x02".as_slice());
+    assert_eq!(rt; units.lines, 3);
+    assert_eq!(rt; units.required()?, Ending::Damaged);
+    assert_eq!(rt; units.unit(Ending::Damaged).bytes, b"\x03".as_slice());
+    assert_eq!(rt; units.lines, 5);
+    assert_eq!(rt; units.next_unit()?, None);
+    assert!(rt; matches!(units.required(), Err(Stop::Refused(Malformed))));
     Ok(())
 }
 
