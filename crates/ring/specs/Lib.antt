@@ -9,3 +9,4 @@ pub mod Plays
 pub mod Reports
 pub mod TwoPosts
 pub mod Examples
+pub mod Beginning

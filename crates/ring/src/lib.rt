@@ -1,6 +1,7 @@
 // All posts and lines of a ring together. Assumes nothing.
 #![tactic(auto)]
 
+mod beginning;
 mod counting;
 mod line;
 mod machine;
@@ -12,6 +13,7 @@ mod saying;
 mod start;
 mod tally;
 
+pub use beginning::{first_lines, first_posts};
 pub use line::Line;
 pub use play_error::PlayError;
 pub use playing::play;

@@ -9,26 +9,7 @@ fn two_posts() -> Result<Settings, Fault> {
     read_settings(&[2, 2, 0, 6, 0, 0, 0, 2])
 }
 
-// Posts with nothing in their memories.
-fn first_posts(heap: Global, settings: &Settings) -> Result<Vec<Post>, Fail> {
-    let mut posts = Vec::new(heap);
-    for place in 0..settings.posts {
-        posts.push(Post::new(place, Memory::from_bytes([0; 16]), settings)?)?;
-    }
-    Ok(posts)
-}
-
-// Lines with the frames that posts send with number 0.
-fn first_lines(heap: Global, settings: &Settings) -> Result<Vec<Line>, Fail> {
-    let mut lines = Vec::new(heap);
-    for post in 0..settings.posts {
-        let frame = write_frame(post, 0);
-        lines.push(Line { frame, lost: false })?;
-    }
-    Ok(lines)
-}
-
-// Plays a script from there, and leaves the numbers of all members.
+// Plays a script from the beginning, and leaves the numbers of all members.
 fn played(heap: Global, script: &[u8], numbers: &mut [u16; 6]) -> Result<Report, Fail> {
     let settings = two_posts()?;
     let mut posts = first_posts(heap, &settings)?;
@@ -210,5 +191,25 @@ fn slices_that_do_not_fit(rt: HostRuntime) -> Result<(), Fail> {
     );
     assert!(rt; matches!(answer, Err(PlayError::Unfit)));
     assert_eq!(rt; numbers, [7; 6]);
+    Ok(())
+}
+
+#[test]
+fn a_ring_begins_with_zeros(rt: HostRuntime) -> Result<(), Fail> {
+    let settings = two_posts()?;
+    let posts = first_posts(rt.alloc(), &settings)?;
+    let places = [0, 1];
+    assert_eq!(rt; posts.len(), places.len());
+    for (post, place) in posts.iter().zip(places) {
+        assert_eq!(rt; post.place(), place);
+        assert_eq!(rt; post.memory.to_bytes(), [0; 16]);
+        assert!(rt; !post.button);
+    }
+    let lines = first_lines(rt.alloc(), &settings)?;
+    let frames = [[1, 0, 0, 0, 0xf2, 0x74], [1, 1, 0, 0, 0xc5, 0x44]];
+    assert_eq!(rt; lines.len(), frames.len());
+    for (line, frame) in lines.iter().zip(frames) {
+        assert_eq!(rt; *line, Line { frame, lost: false });
+    }
     Ok(())
 }

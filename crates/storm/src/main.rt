@@ -4,37 +4,13 @@
 mod help;
 mod printing;
 
-use frames::{Fault, Settings, read_settings, write_frame};
+use frames::{Fault, read_settings};
 use help::HELP;
 use inputs::{Stop, Units, answer_help, end};
-use posts::{Memory, Post};
 use printing::Printer;
-use ring::{Line, PlayError, play};
-use std::alloc::{AllocError, Global};
+use ring::{PlayError, first_lines, first_posts, play};
 use std::io::{BufReader, Read};
 use std::process::ExitCode;
-
-// At the beginning all memories are zero and all buttons up.
-fn first_posts(heap: Global, settings: &Settings) -> Result<Vec<Post>, AllocError> {
-    let mut posts = Vec::new(heap);
-    for place in 0..settings.posts {
-        let Ok(post) = Post::new(place, Memory::from_bytes([0; 16]), settings) else {
-            unreachable()
-        };
-        posts.push(post)?;
-    }
-    Ok(posts)
-}
-
-// At the beginning each line holds the frame that its post sends with number 0.
-fn first_lines(heap: Global, settings: &Settings) -> Result<Vec<Line>, AllocError> {
-    let mut lines = Vec::new(heap);
-    for post in 0..settings.posts {
-        let frame = write_frame(post, 0);
-        lines.push(Line { frame, lost: false })?;
-    }
-    Ok(lines)
-}
 
 fn run(rt: &HostRuntime) -> Result<(), Stop> {
     if answer_help(rt, &HELP)? {
