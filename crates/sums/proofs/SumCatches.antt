@@ -4,15 +4,16 @@ use Rattle.std.proofs.Common.{◌≡◌, ℕ, zero, suc, ◌+◌, ◌-◌, ◌*�
 use lib.Bits.{bit_xor, block_half, block_odd, shifted_half, shifted_even, xor_block, xor_lt, xor_self, xor_zero_r, xor_shr, xor_mod}
 use lib.Count.{ones, ones_step}
 use Rattle.std.specs.List.{flat_map, AllByRecursion}
+use Rattle.std.proofs.lemmas.Grind.{flat_map-append}
 use Rattle.std.proofs.lemmas.Nat.{mod_below, shl_below}
 use Rattle.std.proofs.ByRecursion.{All-drop}
 use Rattle.std.proofs.lemmas.List.{length-drop, take-append-drop}
-use Rattle.std.proofs.lemmas.List.Sums.{fold_push}
+use Rattle.std.proofs.lemmas.List.Sums.{fold-append, fold_push}
 use Rattle.std.proofs.lemmas.Bool.{cases_lt, cases_eq, and_parts, not-true, eq-eqb, both_ways, cond_both}
 use Rattle.sums.specs.Damage.{SixBytes, RightSum, differing, FewBits, Burst, DamagedFrame, Caught}
 use Rattle.sums.specs.Sum.{reduced, with_bit, bits_down, remainder, sum_of}
 use Rattle.sums.specs.Value.{value_of}
-use Rattle.sums.proofs.SumLaws.{xor_middle, xor_twice, shifted, shifted_is, shifted_small, shifts, shifts_more, with_bit_small, with_bit_xor, bits_shifted, reduced_high, reduced_low, remainder_append}
+use Rattle.sums.proofs.SumLaws.{xor_middle, xor_twice, shifted, shifted_is, shifted_small, shifts, shifts_more, with_bit_small, with_bit_xor, bits_shifted, reduced_high, reduced_low}
 
 -- the remainder of j bits of a number, after r
 run : ℕ → ℕ → ℕ → ℕ
@@ -75,7 +76,7 @@ unfolding run
 bytes_run [] r k v h = ap (λ n. run r n v) (sym (zero-add k))
 bytes_run (b ∷ bs) r k v h =
     let long : 8 * length bs + (8 + k) ≡ 8 * suc (length bs) + k = omega arith in
-    remainder_append (run r k v) (bits_down 8 b) (flat_map (bits_down 8) bs)
+    fold-append with_bit (run r k v) (bits_down 8 b) (flat_map (bits_down 8) bs)
     ∙ ap (λ x. remainder x (flat_map (bits_down 8) bs)) (sym (run_append r 8 k v b h.0))
     ∙ bytes_run bs r (8 + k) (v * 256 + b) h.1 ∙ ap (λ n. run r n (fold (λ x c. x * 256 + c) (v * 256 + b) bs)) long
 
@@ -113,10 +114,8 @@ own_sum s h =
 
 bits_append : (r : ℕ) (xs ys : List ℕ) →
     remainder r (flat_map (bits_down 8) (xs ++ ys)) ≡ remainder (remainder r (flat_map (bits_down 8) xs)) (flat_map (bits_down 8) ys)
-bits_append r [] ys = refl
-bits_append r (x ∷ xs) ys =
-    remainder_append r (bits_down 8 x) (flat_map (bits_down 8) (xs ++ ys)) ∙ bits_append (remainder r (bits_down 8 x)) xs ys
-    ∙ sym (ap (λ q. remainder q (flat_map (bits_down 8) ys)) (remainder_append r (bits_down 8 x) (flat_map (bits_down 8) xs)))
+bits_append r xs ys =
+    ap (remainder r) (flat_map-append (bits_down 8) xs ys) ∙ fold-append with_bit r (flat_map (bits_down 8) xs) (flat_map (bits_down 8) ys)
 
 value_small : (bs : List ℕ) (v k : ℕ) → v < 2 ^ k → AllByRecursion (λ b. b < 256) bs → fold (λ x b. x * 256 + b) v bs < 2 ^ (8 * length bs + k)
 value_small [] v k h a = subst (λ n. v < 2 ^ n) (sym (zero-add k)) h

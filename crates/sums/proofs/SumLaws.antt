@@ -1,11 +1,12 @@
 -- Laws of the checksum: it is linear over exclusive or, and the bits of a byte can be added at once. Assumes nothing.
-use Rattle.std.proofs.Common.{◌≡◌, ℕ, zero, suc, ◌+◌, ◌-◌, ◌*◌, ◌/◌, ◌%◌, ◌^◌, ◌<◌, List, [], ◌∷◌, ◌++◌, length, get_or, take, sym, refl, ap, ◌∙◌, subst, inl, inr, add-zero, mul_assoc, mul_comm, add-mul, pow-suc, zero-add, zero-mul, one-add, arith, lit<, pow_pos, pow-add, shl_lt}
+use Rattle.std.proofs.Common.{◌≡◌, ℕ, zero, suc, ◌+◌, ◌-◌, ◌*◌, ◌/◌, ◌%◌, ◌^◌, ◌<◌, List, [], ◌∷◌, sym, refl, ap, ◌∙◌, subst, inl, inr, add-zero, mul_assoc, mul_comm, add-mul, pow-suc, zero-add, zero-mul, one-add, arith, lit<, pow_pos, pow-add, shl_lt}
 use native.Mathlib.Nat.{mod-one}
 use lib.Bits.{bit_xor, xor_block, xor_assoc, xor_comm, xor_lt, xor_self, xor_zero_r, xor_shifted}
 use lib.Pow.{mod-pow-add}
-use Rattle.std.specs.List.{flat_map}
+use Rattle.std.specs.List.{flat_map, fold}
+use Rattle.std.proofs.lemmas.List.Sums.{fold-append}
+use Rattle.std.proofs.lemmas.List.Concat.{flat_map-cons}
 use Rattle.std.proofs.lemmas.Nat.{mod_below}
-use Rattle.std.proofs.lemmas.List.{take_more, flat_map_more}
 use Rattle.std.proofs.lemmas.Bool.{le-leb, lt-leb, cases_lt, cond-true, cond-false}
 use Rattle.sums.specs.Sum.{reduced, with_bit, bits_down, remainder}
 
@@ -178,14 +179,9 @@ byte_shifted r b m h k e =
     let low : b % 256 ≡ b = omega arith in
     sym (bits_shifted 8 8 r b refl h ∙ ap (λ x. shifts 8 (bit_xor r x)) (ap (λ x. x * 256) low ∙ sym e))
 
-pub remainder_append : (r : ℕ) (bs cs : List ℕ) → remainder r (bs ++ cs) ≡ remainder (remainder r bs) cs
-remainder_append r [] cs = refl
-remainder_append r (b ∷ bs) cs = remainder_append (with_bit r b) bs cs
-
--- the bits of one byte more
-pub bytes_more : (r : ℕ) (bs : List ℕ) (i : ℕ) → i < length bs →
-    remainder r (flat_map (bits_down 8) (take (i + 1) bs)) ≡ remainder (remainder r (flat_map (bits_down 8) (take i bs))) (bits_down 8 (get_or bs i 0))
-bytes_more r bs i h =
-    ap (λ xs. remainder r (flat_map (bits_down 8) xs)) (take_more bs i 0 h)
-    ∙ ap (remainder r) (sym (flat_map_more (bits_down 8) [] (take i bs) (get_or bs i 0)))
-    ∙ remainder_append r (flat_map (bits_down 8) (take i bs)) (bits_down 8 (get_or bs i 0))
+-- byte by byte, each with its bits
+pub by_bytes : (r : ℕ) (bs : List ℕ) → fold (λ s b. remainder s (bits_down 8 b)) r bs ≡ remainder r (flat_map (bits_down 8) bs)
+by_bytes r [] = refl
+by_bytes r (b ∷ bs) =
+    by_bytes (remainder r (bits_down 8 b)) bs
+    ∙ (sym (fold-append with_bit r (bits_down 8 b) (flat_map (bits_down 8) bs)) ∙ ap (remainder r) (sym (flat_map-cons (bits_down 8) b bs)))

@@ -35,9 +35,7 @@ fn add_byte(register: u16, byte: u8) -> u16
 pub fn checksum(bytes: &[u8]) -> u16
     ensures { result ≡ sum_of bytes.now }
 {
-    let mut register = BEGINNING;
-    for byte in bytes {
-        register = add_byte(register, *byte);
-    }
-    register
+    bytes
+        .iter()
+        .fold(BEGINNING, |register, byte| add_byte(register, *byte))
 }

@@ -1,20 +1,14 @@
--- What `checksum` owes, from the step of one byte more. Assumes nothing.
-use Rattle.std.proofs.Common.{get_or, sym, ap, ◌∙◌}
-use Rattle.std.specs.List.{flat_map}
-use Rattle.std.proofs.lemmas.List.{take_all}
+-- What `checksum` owes, from the law of a byte more. Assumes nothing.
+use Rattle.std.proofs.Common.{rules, ◌∙◌}
+use Rattle.std.proofs.lemmas.Iterator.{YieldsList-from_slice}
+use Rattle.std.proofs.lemmas.Iterator.Consumers.{fold_from_yields_List}
+use borrow.Author.Tests.{tests}
 use Rattle.sums.specs.Sum.{bits_down, remainder, sum_of}
-use Rattle.sums.proofs.SumLaws.{bytes_more}
+use Rattle.sums.proofs.SumLaws.{by_bytes}
 use Rattle.sums.proofs.sum.checksum.Goals as goal
-
-pub loop-byte-preserved : goal.loop-byte-preserved
-loop-byte-preserved c =
-    let bs = c.args.bytes.now in
-    let i = c.loop-byte.byte-index in
-    c.add_byte-register.ensures ∙ ap (λ r. remainder r (bits_down 8 (get_or bs i 0))) c.loop-byte.invariant
-    ∙ sym (bytes_more 65535 bs i c.loop-byte-test.true)
 
 pub returns : goal.returns
 unfolding sum_of
 returns c =
     let bs = c.args.bytes.now in
-    c.loop-byte.invariant ∙ ap (λ xs. remainder 65535 (flat_map (bits_down 8) xs)) (take_all c.loop-byte.byte-index bs c.loop-byte-test.false)
+    fold_from_yields_List _ (λ r b. remainder r (bits_down 8 b)) 65535 c.fold.result c.fold.ensures.ran (YieldsList-from_slice bs cc) (λ a x b q k. search (rules, tests)) ∙ by_bytes 65535 bs
