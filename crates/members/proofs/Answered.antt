@@ -3,9 +3,11 @@
 use Rattle.std.proofs.Common.{◌≡◌, ℕ, zero, suc, ◌<◌, ◌≤◌, true, false, T, length, Some, None, Ok, Err, Option, Result, sym, refl, ap, subst, arith}
 use Rattle.members.specs.declared.refusal.Refusal.{Refusal}
 use Rattle.members.specs.declared.refusal.Refusal.TheVariants.{NumberTooLarge}
-use Rattle.std.proofs.lemmas.Bool.{lt-ltb}
+use native.Mathlib.Nat.{suc-pred-eq_of_pos}
+use Rattle.std.proofs.lemmas.Bool.{le-ltb, lt-ltb}
 use Rattle.std.proofs.lemmas.Bool.Decides.{nat_tests}
 use Rattle.members.specs.Answers.{answer, before, may_by, next_by, ring_of, or_else, refused_size, refused_member, refused_ring, refused_whole}
+use Rattle.members.proofs.States.{below_at}
 use Rattle.members.specs.Ring.{State, IsState, Enough, all_below, at, may, next}
 
 pub accepted : {A : Type 0} (o : Option Refusal) (a v : A) → Ok v ≡ answer o a → (o ≡ None) × (v ≡ a)
@@ -59,6 +61,10 @@ checked k s a v e =
     let b : all_below k s ≡ true = grind (arith, nat_tests) in
     record { taken = r.0; wide = z.1; enough = (z.0, omega (arith, z.1)); state = (refl, subst T (sym b) tt) }
 
+before_below : (s : State) (i : ℕ) → i < length s → before s i < length s
+before_below s zero l = omega (arith, suc-pred-eq_of_pos l)
+before_below s (suc i) l = omega arith
+
 -- the pair of numbers that a member looks at, where it was given: the question isn't refused, and the member's rule by these numbers is that of the ring
 pub record Looked (k : ℕ) (s : State) (i b x : ℕ) : Type 0 where
   pub taken : refused_member k s i ≡ None
@@ -94,3 +100,10 @@ looked k s i b x e =
       may_is = rw (q, w) (may_by_lem k s i);
       next_is = rw (q, w) (next_by_lem k s i);
     }
+
+-- a question about a member of a ring with its numbers isn't refused
+pub member_taken : (k : ℕ) (s : State) (i : ℕ) → 2 < length s → length s ≤ k → T (all_below k s) → i < length s → refused_member k s i ≡ None
+member_taken k s i g w b l =
+    let a : at s (before s i) < k = below_at k s (before s i) b (before_below s i l) in
+    let c : at s i < k = below_at k s i b l in
+    rw (le-ltb (length s) 3 g, le-ltb k (length s) w, lt-ltb i (length s) l, lt-ltb (at s (before s i)) k a, lt-ltb (at s i) k c)

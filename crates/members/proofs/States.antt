@@ -101,7 +101,10 @@ how_many_is r x ys e =
     let a : how_many r (x ∷ ys) r.members ≡ how_many r (x ∷ ys) (suc (length ys)) = ap (how_many r (x ∷ ys)) (sym e) in
     omega (arith, how_many_rises r (x ∷ ys) (length ys), may_closes r x ys e, rises_all x ys)
 
--- healed where at most one differs from the one before it
+-- healed: at most one differs from the one before it
+pub healed_few : (r : Ring) (x : ℕ) (ys : List ℕ) → suc (length ys) ≡ r.members → Healed r (x ∷ ys) → diffs x ys ≤ 1
+healed_few r x ys e h = omega (arith, how_many_is r x ys e)
+
 pub few_healed : (r : Ring) (x : ℕ) (ys : List ℕ) → suc (length ys) ≡ r.members → diffs x ys ≤ 1 → Healed r (x ∷ ys)
 few_healed r x ys e h =
     elim (cases_lt 0 (diffs x ys)) [
