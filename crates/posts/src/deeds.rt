@@ -1,4 +1,4 @@
-// What a post does in a tick. Assumes nothing.
+// What a post does in a tick. Apart from `Act`, since that it sends is known before the frame is. Assumes nothing.
 
 #[derive(Clone, Copy, PartialEq, Eq, Debug)]
 pub struct Deeds {
