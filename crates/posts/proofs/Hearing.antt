@@ -41,7 +41,7 @@ hear_refreshes k p ticks x m h l =
       number_below = norm_below k m.number (omega arith);
       heard_below = h;
       turn_cut = λ had has.
-          let now : may_by p x (number_in k m) ≡ true = ap (may_by p x) (sym (norm_norm k m.number)) ∙ (ap (λ y. may_by p y (norm k (number_in k m))) (sym (norm_is k x h)) ∙ has) in
+          let now : may_by p x (number_in k m) ≡ true = rw (norm_is k x h, norm_norm k m.number) at has in
           set_anew (may_move k p m) (may_by p x (number_in k m)) ticks m.turn had now l;
       turn_stays = λ t. set_or_kept (may_move k p m) (may_by p x (number_in k m)) ticks m.turn l t;
     }
@@ -53,13 +53,9 @@ kept_turn false ticks t = refl
 
 heard_twice : (k p ticks x : ℕ) (m : Memory) → x < k → heard_from k p ticks x (heard_from k p ticks x m) ≡ heard_from k p ticks x m
 heard_twice k p ticks x m h =
-    let after = heard_from k p ticks x m in
-    let number : norm k (number_in k m) ≡ number_in k m = norm_norm k m.number in
-    let had : may_move k p after ≡ may_by p x (norm k (number_in k m)) = ap (λ y. may_by p y (norm k (number_in k m))) (norm_is k x h) in
-    let turn : after_hearing (may_move k p after) (may_by p x (norm k (number_in k m))) ticks after.turn ≡ after.turn =
-    ap (λ b. after_hearing b (may_by p x (norm k (number_in k m))) ticks after.turn) had ∙ kept_turn (may_by p x (norm k (number_in k m))) ticks after.turn in
-    ap (λ (t : Turn). record { number = norm k (number_in k m); heard = x; turn = t; wait = m.wait; moves = m.moves; since = m.since }) turn
-    ∙ ap (λ n. record { number = n; heard = x; turn = after.turn; wait = m.wait; moves = m.moves; since = m.since }) number
+    let turn : after_hearing (may_by p (norm k x) (norm k (number_in k m))) (may_by p x (norm k (number_in k m))) ticks (heard_from k p ticks x m).turn
+    ≡ (heard_from k p ticks x m).turn = rw (norm_is k x h, kept_turn) in
+    rw (turn, norm_norm k m.number)
 
 -- a frame that the reader accepts is heard, and heard again it changes nothing
 pub record HeardFrame (s : Settings) (bytes : List ℕ) (p : Post) (m : Memory) (a : Act) (Q : Fault → Type 0) : Type 0 where

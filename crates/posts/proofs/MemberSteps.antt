@@ -1,13 +1,13 @@
 -- The steps of a post as those of ring members: post p is member 3 p, and what it heard is the number of the member before.
 -- Assumes nothing.
-use Rattle.std.proofs.Common.{◌≡◌, ℕ, zero, suc, ◌+◌, ◌*◌, ◌<◌, Bool, cond, not, eqb, sym, refl, ap, ◌∙◌, arith}
+use Rattle.std.proofs.Common.{◌≡◌, ℕ, zero, suc, ◌+◌, ◌*◌, ◌<◌, cond, not, eqb, sym, refl, ap, ◌∙◌, arith}
 use Rattle.std.proofs.lemmas.Bool.Decides.{nat_tests}
 use Rattle.members.specs.Answers.{may_by, next_by}
 use Rattle.members.specs.Ring.{State, at, may, next}
 use Rattle.posts.specs.declared.deeds.Deeds.{Deeds}
 use Rattle.posts.specs.declared.memory.Memory.{Memory}
 use Rattle.posts.specs.Code.{ring_of, heard_of}
-use Rattle.posts.specs.Rule.{norm, number_in, heard_in, tick_doing}
+use Rattle.posts.specs.Rule.{number_in, heard_in, tick_doing}
 use Rattle.posts.proofs.Norms.{norm_below}
 
 -- the guard and the next number of member 3 p are post p's
@@ -27,11 +27,10 @@ next_of n k (suc p) s = ap (next (ring_of n k) s) (triple p)
 next_below : (k p heard number : ℕ) → heard < k → next_by k p heard number < k
 next_below k p heard number h = grind (arith, nat_tests)
 
-norm_either : (k : ℕ) (b : Bool) (x y : ℕ) → x < k → y < k → norm k (cond b x y) ≡ cond b x y
-norm_either k b x y h l = grind (arith, nat_tests)
-
 -- the number after a tick, whatever is done in it
 pub tick_number : (k p : ℕ) (d : Deeds) (m : Memory) → 0 < k →
     number_in k (tick_doing k p d m) ≡ cond d.moves (next_by k p (heard_in k m) (number_in k m)) (number_in k m)
 tick_number k p d m h =
-    norm_either k d.moves _ _ (next_below k p (heard_in k m) (number_in k m) (norm_below k m.heard h)) (norm_below k m.number h)
+    let number = norm_below k m.number h in
+    let taken = next_below k p (heard_in k m) (number_in k m) (norm_below k m.heard h) in
+    grind (arith, nat_tests)
