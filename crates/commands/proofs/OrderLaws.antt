@@ -1,7 +1,8 @@
 -- What a reader of orders meets, field by field; and every order to a post that is there is accepted. Assumes nothing.
-use Rattle.std.proofs.Common.{◌≡◌, ℕ, zero, suc, ◌<◌, ◌≤◌, true, cond, ◌&&◌, eqb, leb, List, [], ◌∷◌, length, get_or, drop, replicate, Some, None, Option, sym, refl, ap, ◌∙◌, inl, inr, arith}
+use Rattle.std.proofs.Common.{◌≡◌, ℕ, zero, suc, ◌<◌, ◌≤◌, true, cond, ◌&&◌, eqb, leb, List, [], ◌∷◌, length, get_or, drop, replicate, Some, None, Option, sym, refl, ap, ◌∙◌, arith}
 use Rattle.std.proofs.lemmas.List.{take_rest}
-use Rattle.std.proofs.lemmas.Bool.{cases_Bool, cond-true, cond-false, eqb-true, eqb-false, eq-eqb, ne_eqb, lt-ltb, le-ltb}
+use Rattle.std.proofs.lemmas.Bool.{cond-true, cond-false, eq-eqb, lt-ltb, le-ltb}
+use Rattle.std.proofs.lemmas.Bool.Decides.{nat_tests}
 use Rattle.lines.specs.declared.fault.Fault.{Fault}
 use Rattle.lines.specs.declared.fault.Fault.TheVariants.{Malformed, OutOfRange}
 use Rattle.lines.specs.Checks.{first_fault}
@@ -17,18 +18,9 @@ use Rattle.commands.specs.OrderUnit.{what_of, content_of, order_bytes, AcceptsOr
 -- m bytes of any kind, and no more
 pub any_bytes : (m : ℕ) (bs : List ℕ) → reading_fault (replicate m any_byte) bs ≡ cond (eqb (length bs) m) None (Some Malformed)
 any_bytes zero [] = refl
-any_bytes zero (b ∷ bs) = sym (cond-false _ _ _ (ne_eqb (suc (length bs)) 0 (λ e. omega arith)))
-any_bytes (suc m) [] = sym (cond-false _ _ _ (ne_eqb 0 (suc m) (λ e. omega arith)))
-any_bytes (suc m) (b ∷ bs) =
-    cond-false _ _ _ (le-ltb (suc (length bs)) 1 (omega arith)) ∙ any_bytes m bs
-    ∙ ap (λ t. cond t None (Some Malformed)) (same_test (length bs) m)
-  where
-    same_test : (a b : ℕ) → eqb a b ≡ eqb (suc a) (suc b)
-    same_test a b =
-        elim (cases_Bool (eqb a b)) [
-          | inl t ↦ let e = eqb-true a b t in t ∙ sym (eq-eqb (suc a) (suc b) (omega arith))
-          | inr t ↦ let e = eqb-false a b t in t ∙ sym (ne_eqb (suc a) (suc b) (λ f. e (omega arith)))
-        ]
+any_bytes zero (b ∷ bs) = grind (arith, nat_tests)
+any_bytes (suc m) [] = grind (arith, nat_tests)
+any_bytes (suc m) (b ∷ bs) = let rest = any_bytes m bs in grind (arith, nat_tests)
 
 -- a known number, and what follows
 module _ (bs : List ℕ) (w : ℕ) (there : 1 ≤ length bs) (is : get_or bs 0 0 ≡ w) (known : (leb 1 w && leb w 8) ≡ true) where
