@@ -11,6 +11,7 @@ pub mod HearLaws
 pub mod DisturbLaws
 pub mod BoundLaws
 pub mod KeptLaws
+pub mod StageLaws
 pub mod StartLaws
 pub mod ObeyLaws
 pub mod SayLaws

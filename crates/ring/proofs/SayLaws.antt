@@ -1,12 +1,14 @@
 -- How the sayings of a report add up. Assumes nothing.
-use Rattle.std.proofs.Common.{List, [], ◌++◌, sym, ap, ◌∙◌, append-nil}
-use Rattle.ring.specs.declared.report.Report.{Report}
+use Rattle.std.proofs.Common.{◌≡◌, List, [], ◌∷◌, ◌++◌, map, sym, ap, ◌∙◌, append-nil}
+use Rattle.std.proofs.lemmas.List.{map-append}
+use Rattle.ring.specs.declared.report.Said.{Said}
 use Rattle.ring.specs.Plays.{Saying}
-use Rattle.ring.specs.Reports.{Adds, Tells, said_in}
+use Rattle.ring.specs.Reports.{Adds, saying_of}
 
--- a report to which nothing is added
-pub adds_none : (r : Report) → Adds r r []
-adds_none r = sym (append-nil (said_in r))
+-- nothing more is said
+pub adds_none : (xs : List Said) → Adds xs xs []
+adds_none xs = sym (append-nil (map saying_of xs))
 
-pub tells_more : (r q : Report) (xs ys : List Saying) → Tells r xs → Adds r q ys → Tells q (xs ++ ys)
-tells_more r q xs ys t a = a ∙ ap (λ z. z ++ ys) t
+-- one saying more
+pub adds_one : (xs ys : List Said) (y : Said) (z : Saying) → ys ≡ xs ++ y ∷ [] → saying_of y ≡ z → Adds xs ys (z ∷ [])
+adds_one xs ys y z e q = ap (map saying_of) e ∙ (map-append saying_of xs (y ∷ []) ∙ ap (λ w. map saying_of xs ++ w ∷ []) q)

@@ -6,6 +6,7 @@ pub mod Events
 pub mod Disturbances
 pub mod Bound
 pub mod Plays
+pub mod Lent
 pub mod Reports
 pub mod TwoPosts
 pub mod Examples

@@ -20,17 +20,13 @@ abbrev pub saying_of : Said → Saying
 saying_of (Shown p s b moves since) = shown p (vec_items s) (vec_items b) moves since
 saying_of (Refused line fault) = refused line fault
 
--- all that a report says
-abbrev pub said_in : Report → List Saying
-said_in r = map saying_of (vec_items r.said)
-
--- a report q that has the sayings of r and then some more
-abbrev pub Adds : Report → Report → List Saying → Type 0
-Adds r q says = said_in q ≡ said_in r ++ says
+-- the sayings that ys report are those of xs and then some more
+abbrev pub Adds : List Said → List Said → List Saying → Type 0
+Adds xs ys says = map saying_of ys ≡ map saying_of xs ++ says
 
 -- a report of these sayings
 abbrev pub Tells : Report → List Saying → Type 0
-Tells r says = said_in r ≡ says
+Tells r says = map saying_of (vec_items r.said) ≡ says
 
 -- the slices hold a machine and its numbers
 pub record Holds (o : Settings) (m : Machine) (ps : List Post) (ls : List Line) (s : State) : Type 0 where

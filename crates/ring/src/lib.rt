@@ -4,12 +4,12 @@
 mod beginning;
 mod counting;
 mod line;
-mod machine;
 mod orders;
 mod play_error;
 mod playing;
 mod report;
 mod saying;
+mod stage;
 mod start;
 mod tally;
 

@@ -1,63 +1,54 @@
 // Playing a script of orders on a ring of posts and lines. Assumes nothing.
-ghost use Rattle.std.specs.Prelude.{◌≡◌, ◌+◌, ◌^◌, ◌<◌, ◌≤◌, MatchOption, MatchResult, OnOk};
-ghost use Rattle.ring.specs.Bound.{Sound};
+ghost use Rattle.std.specs.Prelude.{◌≡◌, ◌+◌, ◌^◌, ◌<◌, ◌≤◌, is_ok, if◌then◌else◌, MatchOption, OnOk};
 ghost use Rattle.ring.specs.Examples.{Examples};
-ghost use Rattle.ring.specs.Machine.{state_in};
+ghost use Rattle.ring.specs.Lent.{Becomes, InStep, stage_in};
 ghost use Rattle.ring.specs.Plays.{says_of_line, stage_of_line};
 ghost use Rattle.ring.specs.Promise.{Heals, Progress, Refines, SpeaksAlone};
-ghost use Rattle.ring.specs.Reports.{Adds, Holds, Outcome};
+ghost use Rattle.ring.specs.Reports.{Adds, Outcome};
 
-use crate::orders::obey;
+use crate::stage::Stage;
 use crate::start::start;
-use crate::{Line, PlayError, Report};
+use crate::{Line, PlayError, Report, Said};
 use commands::{Order, read_order};
 use frames::Settings;
 use lines::{Ending, Unit, read_first_line, read_three};
 use posts::Post;
 use std::alloc::{AllocError, Global};
 
-impl Report {
-    // Plays line `line` of a script, which has these bytes and ended so. Where memory fails the ring is as before the line.
+impl Stage<'_> {
+    // Plays line `line` of a script, which has these bytes and ended so, and adds what is said of it. Where memory fails the ring is as before the line.
     fn play_line(
         &mut self,
-        settings: &Settings,
-        posts: &mut [Post],
-        lines: &mut [Line],
-        numbers: &mut [u16],
+        said: &mut Vec<Said>,
         bytes: &[u8],
         ending: Ending,
         line: u64,
     ) -> Result<(), AllocError>
-        requires sound { Sound settings.now record { posts = posts.old; lines = lines.old } self.old.tally }
-        requires same { numbers.old ≡ state_in settings.now record { posts = posts.old; lines = lines.old } }
+        requires in_step { InStep self.old }
         requires room { self.old.tally.moves + 2 < 2 ^ 64 }
-        ensures holds { MatchResult result (λ _. Holds settings.now (stage_of_line settings.now record { bytes = bytes.now; ending = ending } record { machine = record { posts = posts.old; lines = lines.old }; tally = self.old.tally }).machine posts.new lines.new numbers.new) (λ _. Holds settings.now record { posts = posts.old; lines = lines.old } posts.new lines.new numbers.new) }
-        ensures tally { OnOk result (self.new.tally ≡ (stage_of_line settings.now record { bytes = bytes.now; ending = ending } record { machine = record { posts = posts.old; lines = lines.old }; tally = self.old.tally }).tally) }
-        ensures says { OnOk result (Adds self.old self.new (says_of_line settings.now line record { bytes = bytes.now; ending = ending } record { posts = posts.old; lines = lines.old })) }
-        ensures sound { OnOk result (Sound settings.now record { posts = posts.new; lines = lines.new } self.new.tally) }
-        ensures moves { OnOk result (self.new.tally.moves ≤ self.old.tally.moves + 2) }
+        ensures stage { Becomes self.old self.new (if is_ok result then stage_of_line self.old.settings.now record { bytes = bytes.now; ending = ending } (stage_in self.old) else stage_in self.old) }
+        ensures says { OnOk result (Adds said.old.items said.new.items (says_of_line self.old.settings.now line record { bytes = bytes.now; ending = ending } (stage_in self.old).machine)) }
+        ensures moves { self.new.tally.moves ≤ self.old.tally.moves + 2 }
     {
         let unit = Unit { bytes, ending };
         if unit.is_blank() {
             return Ok(());
         }
-        let command = match ending.settle(read_order(bytes, settings)) {
+        let command = match ending.settle(read_order(bytes, self.settings)) {
             Ok(command) => command,
-            Err(fault) => return self.refuse(line, fault),
+            Err(fault) => {
+                said.push(Said::Refused { line, fault })?;
+                return Ok(());
+            }
         };
         match command.order {
-            Order::Show => self.show(settings, posts, numbers, command.post),
+            Order::Show => {
+                let shown = self.show(*said.allocator(), command.post)?;
+                said.push(shown)?;
+                Ok(())
+            }
             order => {
-                let post = usize::from(command.post);
-                obey(
-                    settings,
-                    posts,
-                    lines,
-                    numbers,
-                    &mut self.tally,
-                    post,
-                    order,
-                );
+                self.obey(usize::from(command.post), order);
                 Ok(())
             }
         }
@@ -77,6 +68,7 @@ fn unit_of<'a>(three: &'a Option<[u8; 3]>, bytes: &'a [u8]) -> &'a [u8]
 // Plays the whole script: each line that holds an order is obeyed, one with nothing on it is passed over, and any other is refused.
 // `numbers` takes the number of each member, whatever it held before, and they are kept in step.
 // Whatever stands in the posts and on the lines, nothing stops the ring; it heals within the bound and stays healed, and then one post speaks at a time.
+#[tactic(auto, using(crate::proofs::Refine::refines, crate::proofs::Going::progress, crate::proofs::Healing::heals, crate::proofs::Healing::speaks_alone, crate::proofs::Examples::examples))]
 pub fn play(
     heap: Global,
     settings: &Settings,
@@ -93,7 +85,14 @@ pub fn play(
     ensures examples { Examples }
 {
     let tally = start(settings, posts, lines, numbers)?;
-    let mut report = Report::new(heap, tally);
+    let mut stage = Stage {
+        settings,
+        posts,
+        lines,
+        numbers,
+        tally,
+    };
+    let mut said = Vec::new(heap);
     let mut bytes = Vec::new(heap);
     let mut line = 0;
     let mut rest = script;
@@ -105,8 +104,11 @@ pub fn play(
             None => read_first_line(rest, &mut bytes)?,
         };
         let unit = unit_of(&three, &bytes);
-        report.play_line(settings, posts, lines, numbers, unit, ending, line)?;
+        stage.play_line(&mut said, unit, ending, line)?;
         rest = after;
     }
-    Ok(report)
+    Ok(Report {
+        said,
+        tally: stage.tally,
+    })
 }

@@ -1,13 +1,13 @@
-// What is said of each line of a script, added to a report. Where memory fails nothing is added. Assumes nothing.
-ghost use Rattle.std.specs.Prelude.{◌≡◌, ◌<◌, List, [], ◌∷◌, map, length, IfOk, OnErr, OnOk};
+// What a show says. Assumes nothing.
+ghost use Rattle.std.specs.Prelude.{◌≡◌, ◌<◌, map, IfOk};
 ghost use Rattle.posts.specs.Steps.{deeds_in};
-ghost use Rattle.ring.specs.declared.line.Line.{Line};
-ghost use Rattle.ring.specs.Machine.{state_in};
-ghost use Rattle.ring.specs.Plays.{refused, show};
-ghost use Rattle.ring.specs.Reports.{Adds};
+ghost use Rattle.ring.specs.Lent.{InStep, stage_in};
+ghost use Rattle.ring.specs.Plays.{show};
+ghost use Rattle.ring.specs.Reports.{saying_of};
 
-use crate::{Report, Said, Tally};
-use frames::{Fault, Settings};
+use crate::Said;
+use crate::stage::Stage;
+use frames::Settings;
 use posts::Post;
 use std::alloc::{AllocError, Global};
 
@@ -21,51 +21,20 @@ fn speakers_of(heap: Global, settings: &Settings, posts: &[Post]) -> Result<Vec<
         .collect(heap)
 }
 
-impl Report {
-    // A report that says nothing yet.
-    pub(crate) fn new(heap: Global, tally: Tally) -> Report
-        ensures said { result.said.items ≡ [] }
-        ensures tally { result.tally ≡ tally }
-    {
-        Report {
-            said: Vec::new(heap),
-            tally,
-        }
-    }
-
-    // A line is refused.
-    pub(crate) fn refuse(&mut self, line: u64, fault: Fault) -> Result<(), AllocError>
-        ensures says { OnOk result (Adds self.old self.new (refused line fault ∷ [])) }
-        ensures left { OnErr result (Adds self.old self.new []) }
-        ensures tally { self.new.tally ≡ self.old.tally }
-    {
-        self.said.push(Said::Refused { line, fault })?;
-        Ok(())
-    }
-
+impl Stage<'_> {
     // All numbers, who would speak, and the counts of one post.
-    pub(crate) fn show(
-        &mut self,
-        settings: &Settings,
-        posts: &[Post],
-        numbers: &[u16],
-        post: u8,
-    ) -> Result<(), AllocError>
-        requires { post < length posts.now }
-        ensures says { OnOk result (((ls : List Line) → numbers.now ≡ state_in settings.now record { posts = posts.now; lines = ls } → Adds self.old self.new (show settings.now post record { posts = posts.now; lines = ls } ∷ []))) }
-        ensures left { OnErr result (Adds self.old self.new []) }
-        ensures tally { self.new.tally ≡ self.old.tally }
+    pub(crate) fn show(&self, heap: Global, post: u8) -> Result<Said, AllocError>
+        requires in_step { InStep self.now }
+        requires there { post < self.now.settings.now.posts }
+        ensures { IfOk result (λ said. saying_of said ≡ show self.now.settings.now post (stage_in self.now).machine) }
     {
-        let heap = *self.said.allocator();
-        let memory = posts[usize::from(post)].memory;
-        let said = Said::Shown {
+        let memory = self.posts[usize::from(post)].memory;
+        Ok(Said::Shown {
             post,
-            numbers: numbers.to_vec(heap)?,
-            speakers: speakers_of(heap, settings, posts)?,
+            numbers: self.numbers.to_vec(heap)?,
+            speakers: speakers_of(heap, self.settings, self.posts)?,
             moves: memory.moves,
             since: memory.since,
-        };
-        self.said.push(said)?;
-        Ok(())
+        })
     }
 }

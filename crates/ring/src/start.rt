@@ -7,7 +7,6 @@ ghost use Rattle.ring.specs.Plays.{Fitting, Seated};
 ghost use Rattle.ring.specs.Promise.{ring_of_settings};
 ghost use Rattle.ring.specs.Tallies.{anew};
 
-use crate::machine::number_on;
 use crate::{Line, PlayError, Tally};
 use frames::Settings;
 use members::{how_many_may, member_after};
@@ -33,7 +32,7 @@ fn member_number(settings: &Settings, posts: &[Post], lines: &[Line], j: usize) 
     let k = settings.k;
     match j % 3 {
         0 => in_range(posts[i].memory.number, k),
-        1 => number_on(lines[i].frame, k),
+        1 => lines[i].number(k),
         _ => in_range(posts[member_after(posts.len(), i)].memory.heard, k),
     }
 }

@@ -22,7 +22,7 @@ returns-in-1 c =
     let o = c.args.settings.now in
     let m : Machine = record { posts = c.args.posts.now; lines = c.args.lines.now } in
     let l : c.args.j / 3 < o.posts = omega (arith, c.requires.there) in
-    rw c.in-1.is (c.number_on.ensures ∙ sym (numbers_sent o o.posts m c.requires.whole (c.args.j / 3) l))
+    rw c.in-1.is (c.number.ensures ∙ sym (numbers_sent o o.posts m c.requires.whole (c.args.j / 3) l))
 
 pub returns-in_default : goal.returns-in_default
 unfolding member_of
