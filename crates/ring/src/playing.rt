@@ -1,5 +1,6 @@
 // Playing a script of orders on a ring of posts and lines. Assumes nothing.
 ghost use Rattle.std.specs.Prelude.{◌≡◌, ◌+◌, ◌^◌, ◌<◌, ◌≤◌, is_ok, if◌then◌else◌, MatchOption, OnOk};
+ghost use Rattle.lines.specs.UnitLines.{line_in};
 ghost use Rattle.ring.specs.Examples.{Examples};
 ghost use Rattle.ring.specs.Lent.{Becomes, InStep, stage_in};
 ghost use Rattle.ring.specs.Plays.{says_of_line, stage_of_line};
@@ -16,25 +17,23 @@ use posts::Post;
 use std::alloc::{AllocError, Global};
 
 impl Stage<'_> {
-    // Plays line `line` of a script, which has these bytes and ended so, and adds what is said of it. Where memory fails the ring is as before the line.
+    // Plays line `line` of a script, with this unit on it, and adds what is said of it. Where memory fails the ring is as before the line.
     fn play_line(
         &mut self,
         said: &mut Vec<Said>,
-        bytes: &[u8],
-        ending: Ending,
+        unit: Unit<'_>,
         line: u64,
     ) -> Result<(), AllocError>
         requires in_step { InStep self.old }
         requires room { self.old.tally.moves + 2 < 2 ^ 64 }
-        ensures stage { Becomes self.old self.new (if is_ok result then stage_of_line self.old.settings.now record { bytes = bytes.now; ending = ending } (stage_in self.old) else stage_in self.old) }
-        ensures says { OnOk result (Adds said.old.items said.new.items (says_of_line self.old.settings.now line record { bytes = bytes.now; ending = ending } (stage_in self.old).machine)) }
+        ensures stage { Becomes self.old self.new (if is_ok result then stage_of_line self.old.settings.now (line_in unit.entry) (stage_in self.old) else stage_in self.old) }
+        ensures says { OnOk result (Adds said.old.items said.new.items (says_of_line self.old.settings.now line (line_in unit.entry) (stage_in self.old).machine)) }
         ensures moves { self.new.tally.moves ≤ self.old.tally.moves + 2 }
     {
-        let unit = Unit { bytes, ending };
         if unit.is_blank() {
             return Ok(());
         }
-        let command = match ending.settle(read_order(bytes, self.settings)) {
+        let command = match unit.ending.settle(read_order(unit.bytes, self.settings)) {
             Ok(command) => command,
             Err(fault) => {
                 said.push(Said::Refused { line, fault })?;
@@ -56,7 +55,7 @@ impl Stage<'_> {
 }
 
 // The bytes of a line: the three, or else those that were read.
-fn unit_of<'a>(three: &'a Option<[u8; 3]>, bytes: &'a [u8]) -> &'a [u8]
+fn bytes_read<'a>(three: &'a Option<[u8; 3]>, bytes: &'a [u8]) -> &'a [u8]
     ensures { MatchOption three.now (result.now ≡ bytes.now) (λ found. result.now ≡ found) }
 {
     match three {
@@ -103,8 +102,11 @@ pub fn play(
             Some(_) => (Ending::Whole, &rest[9..]),
             None => read_first_line(rest, &mut bytes)?,
         };
-        let unit = unit_of(&three, &bytes);
-        stage.play_line(&mut said, unit, ending, line)?;
+        let unit = Unit {
+            bytes: bytes_read(&three, &bytes),
+            ending,
+        };
+        stage.play_line(&mut said, unit, line)?;
         rest = after;
     }
     Ok(Report {

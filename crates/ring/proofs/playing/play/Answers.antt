@@ -36,19 +36,19 @@ slice_bounds-ending-start c = three_long c.loop-rest.rest.now c.in-Some.ensures.
 
 -- what was read, in either way, is the first line of what was left
 line_read : (c : goal.In_ok-play_line) → let l : Line = line_of (first_line c.loop-rest.rest.now) in
-    (c.unit_of-unit.result.now ≡ l.bytes) × (c.match-three.ending.0 ≡ l.ending) × (c.match-three.ending.1.now ≡ after_line c.loop-rest.rest.now)
+    (c.bytes_read.result.now ≡ l.bytes) × (c.match-three.ending.0 ≡ l.ending) × (c.match-three.ending.1.now ≡ after_line c.loop-rest.rest.now)
 line_read c =
     let s = c.loop-rest.rest.now in
-    let unit = c.unit_of-unit.result.now in
+    let unit = c.bytes_read.result.now in
     let read = c.deref.result.now in
     elim c.match-three.branch [
       | in-Some w ↦
           let f = w.in-Some.ensures.1 in
-          let u : unit ≡ w.in-Some.field-0 = subst (λ z. MatchOption z (unit ≡ read) (λ b. unit ≡ b)) w.in-Some.is c.unit_of-unit.ensures in
+          let u : unit ≡ w.in-Some.field-0 = subst (λ z. MatchOption z (unit ≡ read) (λ b. unit ≡ b)) w.in-Some.is c.bytes_read.ensures in
           (u ∙ f.line_bytes, ap (λ p. p.0) w.ending-is ∙ f.line_ending, ap (λ p. p.1.now) w.ending-is ∙ (take_rest s 9 ∙ f.after))
       | in-None+in_ok-ending-in-None w ↦
           let f = w.in_ok-ending-in-None.ensures.line in
-          let u : unit ≡ read = subst (λ z. MatchOption z (unit ≡ read) (λ b. unit ≡ b)) w.in-None.is c.unit_of-unit.ensures in
+          let u : unit ≡ read = subst (λ z. MatchOption z (unit ≡ read) (λ b. unit ≡ b)) w.in-None.is c.bytes_read.ensures in
           (u ∙ (c.deref.ensures.value ∙ (ap vec_items w.bytes-is ∙ f.line_bytes)), ap (λ p. p.0) w.ending-is ∙ f.line_ending, ap (λ p. p.1.now) w.ending-is ∙ f.after)
     ]
 
@@ -67,7 +67,7 @@ loop-rest-preserved c =
     let l = some_left s (sym c.loop-rest-test.true ∙ c.is_empty.ensures) in
     let f = line_read c in
     let h = c.in_ok-play_line.ensures in
-    let d = line_is (line_of (first_line s)) c.unit_of-unit.result.now c.match-three.ending.0 f.0 f.1 in
+    let d = line_is (line_of (first_line s)) c.bytes_read.result.now c.match-three.ending.0 f.0 f.1 in
     let n = c.loop-rest.line + 1 in
     midplay_more c.args.settings.now c.args.script.now s _ x c.loop-rest.line (vec_items c.loop-rest.said) c.loop-rest.invariant
     (first_line s) c.match-three.ending.1.now y (vec_items c.play_line.new.said) (lines_first s l ∙ ap (λ t. first_line s ∷ lines_of t) (sym f.2))

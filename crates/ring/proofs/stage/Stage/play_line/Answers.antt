@@ -16,7 +16,7 @@ use Rattle.ring.proofs.stage.Stage.play_line.Goals.{In-Ok, In-Err, Start}
 pub returns-then-is_blank-clause-stage : goal.returns-then-is_blank-clause-stage
 returns-then-is_blank-clause-stage c =
     let x = c.args.self.now in
-    let k : Line = record { bytes = c.args.bytes.now; ending = c.args.ending } in
+    let k : Line = record { bytes = c.args.unit.bytes.now; ending = c.args.unit.ending } in
     let b = sym c.is_blank.ensures ∙ c.if-is_blank.true in
     subst (Becomes x x) (sym (blank_stage x.settings.now k (stage_in x) c.args.line b)) (stays x c.requires.in_step)
 
@@ -24,21 +24,21 @@ pub returns-then-is_blank-clause-says : goal.returns-then-is_blank-clause-says
 returns-then-is_blank-clause-says c =
     let x = c.args.self.now in
     let s = c.args.said.now.items in
-    let k : Line = record { bytes = c.args.bytes.now; ending = c.args.ending } in
+    let k : Line = record { bytes = c.args.unit.bytes.now; ending = c.args.unit.ending } in
     let b = sym c.is_blank.ensures ∙ c.if-is_blank.true in
     subst (Adds s s) (sym (blank_says x.settings.now k (stage_in x) c.args.line b)) (adds_none s)
 
 -- the fault that was found is the line's
-found : (c : In-Err) → let k : Line = record { bytes = c.args.bytes.now; ending = c.args.ending } in
+found : (c : In-Err) → let k : Line = record { bytes = c.args.unit.bytes.now; ending = c.args.unit.ending } in
     Some c.in-Err.fault ≡ line_fault c.args.self.now.settings.now k
 found c =
-    let k : Line = record { bytes = c.args.bytes.now; ending = c.args.ending } in
+    let k : Line = record { bytes = c.args.unit.bytes.now; ending = c.args.unit.ending } in
     sym (ap result_err c.in-Err.is) ∙ fault_found c.args.self.now.settings.now k c.read_order.result c.settle.result c.read_order.ensures.fault c.settle.ensures.fault
 
 pub returns-in-Err-clause-stage : goal.returns-in-Err-clause-stage
 returns-in-Err-clause-stage c =
     let x = c.args.self.now in
-    let k : Line = record { bytes = c.args.bytes.now; ending = c.args.ending } in
+    let k : Line = record { bytes = c.args.unit.bytes.now; ending = c.args.unit.ending } in
     let b = sym c.is_blank.ensures ∙ c.if-is_blank.false in
     subst (Becomes x x) (sym (refused_stage x.settings.now k (stage_in x) c.args.line b c.in-Err.fault (found (goal.at.returns-in-Err-clause-stage c).In-Err))) (stays x c.requires.in_step)
 
@@ -47,16 +47,16 @@ returns-in-Err-clause-says c =
     let x = c.args.self.now in
     let n = c.args.line in
     let f = c.in-Err.fault in
-    let k : Line = record { bytes = c.args.bytes.now; ending = c.args.ending } in
+    let k : Line = record { bytes = c.args.unit.bytes.now; ending = c.args.unit.ending } in
     let b = sym c.is_blank.ensures ∙ c.if-is_blank.false in
     subst (Adds c.args.said.now.items c.push.new.self.items) (sym (refused_says x.settings.now k (stage_in x) n b f (found (goal.at.returns-in-Err-clause-says c).In-Err)))
     (adds_one c.args.said.now.items c.push.new.self.items (Refused n f) (refused n f) c.in_ok-push-in-Err.ensures.items refl)
 
 -- the command that was found is the line's
-commanded : (c : In-Ok) → let k : Line = record { bytes = c.args.bytes.now; ending = c.args.ending } in
+commanded : (c : In-Ok) → let k : Line = record { bytes = c.args.unit.bytes.now; ending = c.args.unit.ending } in
     Commands c.args.self.now.settings.now k c.in-Ok.command
 commanded c =
-    let k : Line = record { bytes = c.args.bytes.now; ending = c.args.ending } in
+    let k : Line = record { bytes = c.args.unit.bytes.now; ending = c.args.unit.ending } in
     order_found c.args.self.now.settings.now k c.read_order.result c.settle.result c.read_order.ensures.fault c.settle.ensures.fault c.settle.ensures.value c.read_order.ensures.value c.read_order.ensures.below c.in-Ok.command c.in-Ok.is
 
 pub returns-in_ok-push-in-Show-clause-stage : goal.returns-in_ok-push-in-Show-clause-stage
@@ -65,7 +65,7 @@ returns-in_ok-push-in-Show-clause-stage c =
     let x = c.args.self.now in
     let o = x.settings.now in
     let p = c.in-Ok.command.post in
-    let k : Line = record { bytes = c.args.bytes.now; ending = c.args.ending } in
+    let k : Line = record { bytes = c.args.unit.bytes.now; ending = c.args.unit.ending } in
     let b = sym c.is_blank.ensures ∙ c.if-is_blank.false in
     let d = commanded (goal.at.returns-in_ok-push-in-Show-clause-stage c).In-Ok in
     let e : stage_of_line o k (stage_in x) ≡ stage_in x = order_stage o k (stage_in x) c.args.line b c.in-Ok.command d.faultless d.written ∙ ap (λ z. obeyed o p z (stage_in x)) c.in-Show.is in
@@ -78,7 +78,7 @@ returns-in_ok-push-in-Show-clause-says c =
     let o = x.settings.now in
     let m = (stage_in x).machine in
     let p = c.in-Ok.command.post in
-    let k : Line = record { bytes = c.args.bytes.now; ending = c.args.ending } in
+    let k : Line = record { bytes = c.args.unit.bytes.now; ending = c.args.unit.ending } in
     let b = sym c.is_blank.ensures ∙ c.if-is_blank.false in
     let d = commanded (goal.at.returns-in_ok-push-in-Show-clause-says c).In-Ok in
     let e : says_of_line o c.args.line k m ≡ show o p m ∷ [] = order_says o k (stage_in x) c.args.line b c.in-Ok.command d.faultless d.written ∙ ap (λ z. answered o p z m) c.in-Show.is in
@@ -92,7 +92,7 @@ returns-in_default c =
     let m = (stage_in x).machine in
     let s = c.args.said.now.items in
     let p = c.in-Ok.command.post in
-    let k : Line = record { bytes = c.args.bytes.now; ending = c.args.ending } in
+    let k : Line = record { bytes = c.args.unit.bytes.now; ending = c.args.unit.ending } in
     let b = sym c.is_blank.ensures ∙ c.if-is_blank.false in
     let d = commanded (goal.at.returns-in_default c).In-Ok in
     let e : stage_of_line o k (stage_in x) ≡ obeyed o c.from.result c.in-Ok.command.order (stage_in x) =
