@@ -1,15 +1,15 @@
 -- Laws of the first line of a text, character by character. Assumes nothing.
 use Rattle.std.proofs.Common.{◌≡◌, ℕ, ◌+◌, ◌*◌, ◌<◌, Bool, true, false, cond, eqb, List, [], ◌∷◌, ◌++◌, length, get_or, Some, None, sym, refl, ap, ◌∙◌, subst, arith}
 use Rattle.std.proofs.lemmas.Bool.Decides.{nat_tests}
-use Rattle.std.proofs.lemmas.Bool.{cond-true, cond-false, eqb-true, eq-eqb, ne_eqb}
+use Rattle.std.proofs.lemmas.Bool.{cond-true, cond-false, eq-eqb, ne_eqb}
 use Rattle.lines.specs.declared.line.Ending.{Ending}
-use Rattle.lines.specs.declared.line.Ending.TheVariants.{Whole, Damaged}
+use Rattle.lines.specs.declared.line.Ending.TheVariants.{Whole}
 use Rattle.lines.specs.declared.line.Symbol.{Symbol}
-use Rattle.lines.specs.declared.line.Symbol.TheVariants.{Digit, Blank, Comment, Stray}
+use Rattle.lines.specs.declared.line.Symbol.TheVariants.{Digit, Blank, Stray}
 use Rattle.lines.specs.Hex.{symbol_of, nothing, prepended, on_symbol, reading, without_return, line_of, IsFirstLine}
 use Rattle.lines.specs.Text.{first_line, after_line, with_first, lines_of}
-use Rattle.lines.proofs.ReturnLaws.{return_more, kept}
-use Rattle.lines.proofs.LineLaws.{Remains, pushed_byte, done, cut_byte}
+use Rattle.lines.proofs.ReturnLaws.{kept}
+use Rattle.lines.proofs.LineLaws.{Remains, pushed_byte, done}
 use Rattle.lines.proofs.Reading.{rest_after_lem}
 use Rattle.lines.proofs.Spelling.{line_spelled}
 use Rattle.lines.proofs.UnitSteps.{rest_after}

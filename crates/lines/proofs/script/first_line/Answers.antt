@@ -1,8 +1,7 @@
 -- The line ends at the newline that was found, or with the text.
-use Rattle.std.proofs.Common.{◌≡◌, ◌+◌, ◌-◌, [], ◌∷◌, take, drop, length, sym, ap, ◌∙◌, subst, arith}
+use Rattle.std.proofs.Common.{length, ◌∙◌, arith}
 use lib.Seq.{take-length}
 use Rattle.std.proofs.lemmas.List.{drop_all}
-use Rattle.lines.specs.Text.{first_line, after_line, lines_of}
 use Rattle.lines.proofs.ScriptLaws.{line_found, last_line}
 use Rattle.lines.proofs.TextLaws.{lines_first}
 use Rattle.lines.proofs.script.first_line.Goals as goal
