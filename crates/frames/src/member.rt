@@ -1,10 +1,10 @@
-// The names of members in text. Assumes nothing.
+// The members of a ring by their places, and their names in text. Assumes nothing.
 ghost use Rattle.std.specs.Prelude.{◌≡◌, Some};
 ghost use Rattle.frames.specs.MemberNames.{name_of, place_of};
 
 use std::fmt;
 
-// A member of the ring: a post, the frame on its line, or the line's end.
+// A member of the ring, by the number of its post: the post, the frame on its line, or the line's end.
 #[derive(Clone, Copy, PartialEq, Eq, Debug)]
 pub enum Member {
     Post(usize),
