@@ -1,7 +1,6 @@
 // Orders to the posts of a ring. Assumes nothing.
-ghost use Rattle.std.specs.Prelude.{◌≡◌, ◌<◌, true, false, [], ◌∷◌, length, IfOk, if◌then◌else◌, Ok, Err, MatchOption, nat_eq, slice_index};
+ghost use Rattle.std.specs.Prelude.{◌≡◌, ◌<◌, ◌∷◌, IfOk, slice_index};
 ghost use Rattle.std.specs.Result.{result_err};
-ghost use Rattle.lines.specs.declared.fault.Fault.TheVariants.{Malformed};
 ghost use Rattle.lines.specs.Checks.{first_fault, IsFirstFault};
 ghost use Rattle.lines.specs.Units.{reading_fault};
 ghost use Rattle.commands.specs.OrderUnit.{what_of, content_of, order_bytes, what_fields, order_checks, AcceptsOrders};
