@@ -1,4 +1,4 @@
--- Walks over a state: what the tail, the chain and the weights of what is left are, one number further.
+-- The others of a ring: where their tail begins, what the weights of what is left are one number further, and the potential by its parts.
 -- Assumes nothing.
 use Rattle.std.proofs.Common.{◌≡◌, ℕ, suc, ◌+◌, ◌-◌, ◌*◌, ◌<◌, ◌≤◌, cond, eqb, inl, inr, List, [], ◌∷◌, length, drop, refl, mul-le-mul, arith, length-drop}
 use Rattle.std.proofs.lemmas.List.{at_drop_more, at_drop_all}
