@@ -1,5 +1,5 @@
 -- What disturbances leave of the numbers and the tally. Assumes nothing.
-use Rattle.std.proofs.Common.{◌≡◌, ℕ, ◌<◌, List, length, set, sym, refl, ap, ◌∙◌, length-set}
+use Rattle.std.proofs.Common.{◌≡◌, ℕ, ◌+◌, ◌*◌, ◌<◌, List, length, set, sym, refl, ap, ◌∙◌, length-set}
 use Rattle.frames.specs.declared.settings.Settings.{Settings}
 use Rattle.members.specs.Answers.{ring_of}
 use Rattle.members.specs.Ring.{Ring, State, how_many}
@@ -8,13 +8,20 @@ use Rattle.posts.specs.declared.post.Post.{Post}
 use Rattle.posts.specs.Rule.{norm, number_in, heard_in}
 use Rattle.posts.specs.Steps.{number_carried}
 use Rattle.ring.specs.declared.line.Line.{Line}
-use Rattle.ring.specs.Disturbances.{memory_becomes, frame_becomes, memory_numbers, frame_numbers}
+use Rattle.ring.specs.Disturbances.{memory_becomes, frame_becomes}
 use Rattle.ring.specs.Machine.{Machine, Whole, numbers_of, state_in}
 use Rattle.ring.specs.Numbers.{end_before, state_of}
 use Rattle.ring.specs.declared.tally.Tally.{Tally}
 use Rattle.ring.specs.Tallies.{Counted, anew}
 use Rattle.ring.proofs.Machines.{set_map, same_numbers, machine_fit}
 use Rattle.ring.proofs.Places.{own_set, sent_set, heard_set}
+
+-- what disturbances leave of the numbers of a ring of n posts: a memory has the number of its post and of the end of the line to it, a frame its own
+abbrev pub memory_numbers : ℕ → ℕ → ℕ → Memory → State → State
+memory_numbers n k i x s = set (set s (3 * i) (number_in k x)) (end_before n i) (heard_in k x)
+
+abbrev pub frame_numbers : ℕ → ℕ → List ℕ → State → State
+frame_numbers k i bytes s = set s (3 * i + 1) (norm k (number_carried bytes))
 
 pub anew_ap : {r q : Ring} {s t : State} → r ≡ q → s ≡ t → anew r s ≡ anew q t
 anew_ap {r} {q} {s} {t} a b = cc

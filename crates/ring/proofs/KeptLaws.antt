@@ -10,7 +10,7 @@ use Rattle.posts.proofs.Norms.{norm_is}
 use Rattle.ring.specs.declared.tally.Tally.{Tally}
 use Rattle.ring.specs.Bound.{HeldTo, Sound}
 use Rattle.ring.specs.Disturbances.{memory_becomes, frame_becomes}
-use Rattle.ring.specs.Events.{Kept, midway, tallied}
+use Rattle.ring.specs.Events.{midway, tallied}
 use Rattle.ring.specs.Machine.{Machine, Whole, post_at, post_doing, Event, tick, hear, lose, press, release, post_of, tick_of, hear_of, step, numbers_of, state_in}
 use Rattle.ring.specs.Numbers.{Numbers, end_before, moves, sends, hears, acts, may_move, state_of, ring_of_posts, changed, Fit}
 use Rattle.ring.specs.Promise.{ring_of_settings}
@@ -94,9 +94,6 @@ module _ (o : Settings) (m : Machine) (w : Whole o.posts m) (i : ℕ) (l : i < o
         | inl e ↦ subst (λ x. Single (ring_of_settings o) (state_in o m) (state_of o.posts x)) (sym e) (single_none (ring_of_settings o) (state_in o m))
         | inr e ↦ subst (λ x. Single (ring_of_settings o) (state_in o m) (state_of o.posts x)) (sym e) (single_hears o.posts o.k (enough o) (numbers_of o m) (machine_fit o m w) i l)
       ]
-
-pub sound_kept : (o : Settings) (m : Machine) (s : State) (y : Tally) → Sound o m y → s ≡ state_in o m → Kept o m s y
-sound_kept o m s y h e = record { whole = h.whole; same = e; counted = h.counted ∙ ap (λ t. how_many (ring_of_settings o) t (3 * o.posts)) (sym e) }
 
 -- a machine whose numbers are as before
 unmoved : (o : Settings) (m n : Machine) (y : Tally) → Sound o m y → Whole o.posts n → numbers_of o n ≡ numbers_of o m → Sound o n y

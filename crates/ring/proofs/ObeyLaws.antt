@@ -1,18 +1,16 @@
 -- Laws of orders that are obeyed: the memory that bytes stand for, and what holds afterwards. Assumes nothing.
-use Rattle.std.proofs.Common.{◌≡◌, ℕ, ◌+◌, ◌*◌, ◌/◌, ◌%◌, ◌<◌, ◌≤◌, List, [], sym, refl, ap, ◌∙◌, arith}
+use Rattle.std.proofs.Common.{◌≡◌, ℕ, ◌+◌, ◌*◌, ◌/◌, ◌%◌, ◌≤◌, List, [], sym, refl, ap, ◌∙◌, arith}
 use Rattle.commands.specs.declared.order.Order.{Order}
 use Rattle.commands.specs.declared.order.Order.TheVariants.{Tick, Hear, Lose, Memory, Frame, ButtonDown, ButtonUp, Show}
 use Rattle.frames.specs.declared.settings.Settings.{Settings}
 use Rattle.posts.specs.declared.memory.Memory.{Memory as PostMemory}
 use Rattle.posts.specs.Layout.{memory_bytes}
-use Rattle.ring.specs.Bound.{Sound}
 use Rattle.ring.specs.Events.{tallied, midway}
-use Rattle.ring.specs.Machine.{Machine, tick, hear, lose, press, release, step, state_in}
+use Rattle.ring.specs.Machine.{Machine, tick, hear, step, state_in}
 use Rattle.ring.specs.Plays.{Stage, memory_in, obeyed, answered}
 use Rattle.ring.specs.Promise.{ring_of_settings}
 use Rattle.ring.specs.Tallies.{noted, anew}
 use Rattle.ring.proofs.Holders.{noted_moves}
-use Rattle.ring.proofs.KeptLaws.{sound_event, sound_anew, memory_whole, frame_whole}
 
 same_memory : {a b h i t u w x m n s r : ℕ} → a ≡ b → h ≡ i → t ≡ u → w ≡ x → m ≡ n → s ≡ r →
     ◌≡◌ {A = PostMemory} (record { number = a; heard = h; turn = record { left = t }; wait = w; moves = m; since = s }) (record { number = b; heard = i; turn = record { left = u }; wait = x; moves = n; since = r })
@@ -28,17 +26,6 @@ count_back v = omega (arith, word_back (v / 65536), word_back (v % 65536))
 pub memory_back : (x : PostMemory) (bs : List ℕ) → memory_bytes x ≡ bs → x ≡ memory_in bs
 memory_back x bs e =
     same_memory (sym (word_back x.number)) (sym (word_back x.heard)) (sym (word_back x.turn.left)) (sym (word_back x.wait)) (sym (count_back x.moves)) (sym (count_back x.since)) ∙ ap memory_in e
-
-pub sound_obeyed : (o : Settings) (p : ℕ) (e : Order) (x : Stage) → Sound o x.machine x.tally → p < o.posts → Sound o (obeyed o p e x).machine (obeyed o p e x).tally
-unfolding obeyed
-sound_obeyed o p Tick x h l = sound_event o (tick p) x.machine x.tally h l
-sound_obeyed o p Hear x h l = sound_event o (hear p) x.machine x.tally h l
-sound_obeyed o p Lose x h l = sound_event o (lose p) x.machine x.tally h l
-sound_obeyed o p (Memory bs) x h l = sound_anew o _ (memory_whole o p (memory_in bs) x.machine h.whole l)
-sound_obeyed o p (Frame bs) x h l = sound_anew o _ (frame_whole o p bs x.machine h.whole l)
-sound_obeyed o p ButtonDown x h l = sound_event o (press p) x.machine x.tally h l
-sound_obeyed o p ButtonUp x h l = sound_event o (release p) x.machine x.tally h l
-sound_obeyed o p Show x h l = h
 
 -- an order is two moves at most
 pub obeyed_moves : (o : Settings) (p : ℕ) (e : Order) (x : Stage) → (obeyed o p e x).tally.moves ≤ x.tally.moves + 2

@@ -1,5 +1,5 @@
 -- What a line of a script does, by what is read of it. Assumes nothing.
-use Rattle.std.proofs.Common.{◌≡◌, ℕ, suc, ◌+◌, ◌<◌, true, false, List, [], ◌∷◌, ◌++◌, length, IfOk, Some, None, Ok, Err, Result, sym, refl, ap, ◌∙◌, subst, append_assoc, append-nil, add-zero, add-suc, arith, MatchResult}
+use Rattle.std.proofs.Common.{◌≡◌, ℕ, suc, ◌+◌, ◌<◌, true, false, List, [], ◌∷◌, ◌++◌, length, IfOk, Some, None, Ok, Err, Result, sym, refl, ap, ◌∙◌, subst, append_assoc, append-nil, add-zero, add-suc, arith}
 use Rattle.std.proofs.lemmas.Bool.{cond-true, cond-false}
 use Rattle.std.specs.Result.{result_err}
 use Rattle.lines.specs.declared.fault.Fault.{Fault}
@@ -15,31 +15,11 @@ use Rattle.lines.specs.Hex.{Line, line_of, is_blank, settled, line_checks}
 use Rattle.commands.specs.OrderUnit.{what_of, content_of, order_bytes, order_checks, order_fields}
 use Rattle.commands.proofs.OrderLaws.{order_laid}
 use Rattle.lines.specs.Units.{Field, Laid, unit_checks}
-use Rattle.members.specs.Ring.{State}
-use Rattle.posts.specs.declared.post.Post.{Post}
-use Rattle.ring.specs.declared.line.Line.{Line as RingLine}
-use Rattle.ring.specs.declared.tally.Tally.{Tally}
-use Rattle.ring.specs.Bound.{Sound}
 use Rattle.ring.specs.Machine.{Machine}
 use Rattle.ring.specs.Plays.{Stage, refused, obeyed, answered, order_of, line_fault, stage_by, says_by, stage_of_line, says_of_line, line_stage, line_says, played, sayings}
-use Rattle.ring.specs.Reports.{Holds}
-
--- what holds whatever comes
-pub whichever : {X E P Q : Type 0} (r : Result X E) → P → Q → MatchResult r (λ _. P) (λ _. Q)
-whichever (Ok x) p q = p
-whichever (Err e) p q = q
-
-pub always_made : {X E P : Type 0} (r : Result X E) → P → IfOk r (λ _. P)
-always_made (Ok x) p = p
-always_made (Err e) p = tt
 
 pub line_is : (l : Line) (bs : List ℕ) (e : Ending) → bs ≡ l.bytes → e ≡ l.ending → record { bytes = bs; ending = e } ≡ l
 line_is l bs e p q = ap (λ b. record { bytes = b; ending = e }) p ∙ ap (λ z. record { bytes = l.bytes; ending = z }) q
-
--- what slices hold is sound as their machine is
-pub holds_sound : (o : Settings) (m : Machine) (ps : List Post) (ls : List RingLine) (s : State) (y t : Tally) → Holds o m ps ls s → y ≡ t → Sound o m t → Sound o (record { posts = ps; lines = ls }) y
-holds_sound o m ps ls s y t h e g =
-    subst (λ z. Sound o (record { posts = z; lines = ls }) y) (sym h.posts) (subst (λ z. Sound o (record { posts = m.posts; lines = z }) y) (sym h.lines) (subst (Sound o m) (sym e) g))
 
 -- the order that its bytes stand for
 order_back : (e : Order) → order_of (what_of e) (content_of e) ≡ e

@@ -1,19 +1,33 @@
 -- What a step over lent slices owes: they hold the stage that it leads to, in step. Assumes nothing.
-use Rattle.std.proofs.Common.{◌≡◌, ◌<◌, refl, ap, ◌∙◌, subst, sym}
+use Rattle.std.proofs.Common.{◌≡◌, ◌*◌, ◌<◌, length, refl, ap, ◌∙◌, subst, sym, arith}
+use Rattle.members.specs.Ring.{how_many}
 use Rattle.ring.specs.declared.stage.Stage.{Stage as LentStage}
 use Rattle.ring.specs.Bound.{Sound}
-use Rattle.ring.specs.Events.{Kept}
 use Rattle.ring.specs.Lent.{Becomes, InStep, SameSlices, stage_in}
-use Rattle.ring.specs.Machine.{Event, Machine, Whole, post_of, state_in}
+use Rattle.ring.specs.Machine.{Event, Machine, Whole, numbers_of, post_of, state_in}
 use Rattle.ring.specs.Plays.{Stage, begins, happened}
 use Rattle.ring.specs.Promise.{ring_of_settings}
-use Rattle.ring.specs.Tallies.{anew}
+use Rattle.ring.specs.Tallies.{Counted, anew}
 use Rattle.ring.proofs.DisturbLaws.{anew_ap}
-use Rattle.ring.proofs.KeptLaws.{sound_anew, sound_event, sound_kept}
+use Rattle.ring.proofs.Holders.{count_any}
+use Rattle.ring.proofs.KeptLaws.{sound_anew, sound_event}
+use Rattle.ring.proofs.Places.{state_length}
+use Rattle.ring.proofs.TickLaws.{ring_same}
 
--- what is in step is kept
-pub step_kept : (x : LentStage) → InStep x → Kept x.settings.now (stage_in x).machine x.numbers.now x.tally
-step_kept x h = sound_kept x.settings.now (stage_in x).machine x.numbers.now x.tally h.sound h.same
+-- numbers that are the machine's can be noted
+module _ (x : LentStage) (h : InStep x) where
+  pub step_length : length x.numbers.now ≡ 3 * x.settings.now.posts
+  step_length = ap length h.same ∙ state_length x.settings.now.posts (numbers_of x.settings.now (stage_in x).machine)
+
+  pub step_numbers : Counted x.numbers.now x.tally.holders
+  step_numbers =
+      let o = x.settings.now in
+      let s = x.numbers.now in
+      record {
+        big = omega (arith, step_length, o.some);
+        counted = λ k. h.sound.counted ∙ (ap (λ t. how_many (ring_of_settings o) t (3 * o.posts)) (sym h.same) ∙ (ap (how_many (ring_of_settings o) s) (sym step_length) ∙
+            (ap (λ r. how_many r s (length s)) (sym (ring_same o s step_length)) ∙ count_any (length s) o.k k s (length s))));
+      }
 
 stage_is : (x : LentStage) (z : Stage) → x.posts.now ≡ z.machine.posts → x.lines.now ≡ z.machine.lines → x.tally ≡ z.tally → stage_in x ≡ z
 stage_is x z a b c =

@@ -10,12 +10,12 @@ use Rattle.posts.specs.Rule.{number_in}
 use Rattle.posts.specs.Steps.{deeds_in}
 use Rattle.posts.proofs.Norms.{norm_is}
 use Rattle.ring.specs.declared.tally.Tally.{Tally}
-use Rattle.ring.specs.Events.{Kept, midway, tallied}
+use Rattle.ring.specs.Events.{midway, tallied}
 use Rattle.ring.specs.Machine.{Machine, Whole, nobody, post_at, post_doing, tick, tick_of, step, numbers_of, state_in}
 use Rattle.ring.specs.Numbers.{Numbers, Fit, state_of}
 use Rattle.ring.specs.Promise.{ring_of_settings}
 use Rattle.ring.specs.Tallies.{Counted, noted}
-use Rattle.ring.proofs.Holders.{count_any, noted_same, noted_other, noted_none, noted_ap}
+use Rattle.ring.proofs.Holders.{noted_same, noted_other, noted_none, noted_ap}
 use Rattle.ring.proofs.Machines.{positive, doing_below, acts_parts, taken, doing_numbers, machine_fit}
 use Rattle.ring.proofs.Places.{state_length, own_set, sent_set}
 
@@ -25,18 +25,6 @@ ring_same o s e = ap (λ n. record { members = n; k = o.k }) e
 
 pub ring_set : (k : ℕ) (s : State) (j v : ℕ) (t : State) → t ≡ set s j v → ring_of k t ≡ ring_of k s
 ring_set k s j v t e = ap (λ n. record { members = n; k = k }) (ap length e ∙ length-set s j v)
-
-pub kept_length : (o : Settings) (m : Machine) (s : State) (y : Tally) → Kept o m s y → length s ≡ 3 * o.posts
-kept_length o m s y h = ap length h.same ∙ state_length o.posts (numbers_of o m)
-
--- numbers that are the machine's can be noted
-pub kept_numbers : (o : Settings) (m : Machine) (s : State) (y : Tally) → Kept o m s y → Counted s y.holders
-kept_numbers o m s y h =
-    let e = kept_length o m s y h in
-    record {
-      big = omega (arith, e, o.some);
-      counted = λ k. h.counted ∙ (ap (how_many (ring_of_settings o) s) (sym e) ∙ (ap (λ r. how_many r s (length s)) (sym (ring_same o s e)) ∙ count_any (length s) o.k k s (length s)));
-    }
 
 -- numbers after a note can be noted again
 pub noted_kept : (s : State) (j v : ℕ) (y z : Tally) → Counted s y.holders → j < length s → ((k : ℕ) → z ≡ noted (ring_of k s) s (set s j v) y) → Counted (set s j v) z.holders

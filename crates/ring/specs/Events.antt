@@ -1,18 +1,12 @@
--- What the code keeps of a machine while events happen: its numbers and the tally of its moves. Assumes nothing.
-use Rattle.std.specs.Prelude.{◌≡◌, ℕ, ◌*◌, slice_set}
+-- The tally of the moves that events bring. Assumes nothing.
+use Rattle.std.specs.Prelude.{ℕ, ◌*◌, slice_set}
 use Rattle.frames.specs.declared.settings.Settings.{Settings}
-use Rattle.members.specs.Ring.{State, how_many}
+use Rattle.members.specs.Ring.{State}
 use Rattle.posts.specs.Rule.{number_in}
 use Rattle.ring.specs.declared.tally.Tally.{Tally}
-use Rattle.ring.specs.Machine.{Machine, Whole, Event, tick, hear, lose, press, release, post_at, tick_of, step, state_in}
+use Rattle.ring.specs.Machine.{Machine, Event, tick, hear, lose, press, release, post_at, tick_of, step, state_in}
 use Rattle.ring.specs.Promise.{ring_of_settings}
 use Rattle.ring.specs.Tallies.{noted}
-
--- the numbers s are the machine's, and so many of its members may move
-pub record Kept (o : Settings) (m : Machine) (s : State) (y : Tally) : Type 0 where
-  pub whole : Whole o.posts m
-  pub same : s ≡ state_in o m
-  pub counted : y.holders ≡ how_many (ring_of_settings o) s (3 * o.posts)
 
 -- the state within a tick of post i, when it has moved or not and hasn't sent yet
 abbrev pub midway : Settings → ℕ → Machine → State

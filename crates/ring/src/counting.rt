@@ -1,5 +1,5 @@
 // Counting the moves of members, each at the cost of two members' guards. K plays no part in it. Assumes nothing.
-ghost use Rattle.std.specs.Prelude.{◌≡◌, ℕ, ◌+◌, ◌^◌, ◌<◌, length, if◌then◌else◌, slice_set};
+ghost use Rattle.std.specs.Prelude.{◌≡◌, ℕ, ◌+◌, ◌^◌, ◌<◌, ◌≤◌, length, if◌then◌else◌, slice_set};
 ghost use Rattle.members.specs.Answers.{ring_of};
 ghost use Rattle.members.specs.Ring.{how_many, may};
 ghost use Rattle.ring.specs.Tallies.{Counted, anew, begun, held_near, noted, one_more};
@@ -66,6 +66,8 @@ impl Tally {
         requires room { self.old.moves + 1 < 2 ^ 64 }
         ensures after { numbers.new ≡ slice_set numbers.old j value }
         ensures value { (k : ℕ) → self.new ≡ noted (ring_of k numbers.old) numbers.old (slice_set numbers.old j value) self.old }
+        ensures counted { Counted numbers.new self.new.holders }
+        ensures moves { self.new.moves ≤ self.old.moves + 1 }
     {
         if numbers[j] == value {
             return;
@@ -80,6 +82,7 @@ impl Tally {
         requires there { j < length numbers.old }
         ensures after { numbers.new ≡ slice_set numbers.old j value }
         ensures value { (k : ℕ) → self.new ≡ anew (ring_of k numbers.old) (slice_set numbers.old j value) }
+        ensures counted { Counted numbers.new self.new.holders }
     {
         let holders = shift(numbers, j, value, self.holders);
         *self = Tally::begin(holders);

@@ -9,6 +9,7 @@ use posts::Memory;
 
 impl Stage<'_> {
     // Obeys an order to post `i`.
+    #[tactic(auto, unfolding(crate::specs::Plays::obeyed))]
     pub(crate) fn obey(&mut self, i: usize, order: Order)
         requires in_step { InStep self.old }
         requires there { i < self.old.settings.now.posts }

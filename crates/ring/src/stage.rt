@@ -33,6 +33,7 @@ impl Stage<'_> {
     }
 
     // A tick of post `i`.
+    #[tactic(auto, using(crate::proofs::StageLaws::step_length, crate::proofs::StageLaws::step_numbers))]
     pub(crate) fn tick(&mut self, i: usize)
         requires in_step { InStep self.old }
         requires there { i < self.old.settings.now.posts }
@@ -53,6 +54,7 @@ impl Stage<'_> {
     }
 
     // Post `i` hears the line before it.
+    #[tactic(auto, using(crate::proofs::StageLaws::step_length, crate::proofs::StageLaws::step_numbers))]
     pub(crate) fn hear(&mut self, i: usize)
         requires in_step { InStep self.old }
         requires there { i < self.old.settings.now.posts }
@@ -94,6 +96,7 @@ impl Stage<'_> {
     }
 
     // The memory of post `i` becomes another: its number and the end of the line to it may change.
+    #[tactic(auto, using(crate::proofs::StageLaws::step_length, crate::proofs::StageLaws::step_numbers))]
     pub(crate) fn disturb_memory(&mut self, i: usize, memory: Memory)
         requires in_step { InStep self.old }
         requires there { i < self.old.settings.now.posts }
@@ -108,6 +111,7 @@ impl Stage<'_> {
     }
 
     // The frame on the line from post `i` becomes another, which isn't lost: its number may change.
+    #[tactic(auto, using(crate::proofs::StageLaws::step_length, crate::proofs::StageLaws::step_numbers))]
     pub(crate) fn disturb_frame(&mut self, i: usize, frame: [u8; 6])
         requires in_step { InStep self.old }
         requires there { i < self.old.settings.now.posts }

@@ -1,21 +1,12 @@
 -- The frame's number is one of the ring.
-use Rattle.std.proofs.Common.{◌+◌, ◌*◌, set, sym, refl, ap, ◌∙◌, arith}
-use Rattle.ring.specs.Disturbances.{frame_becomes, frame_numbers}
+use Rattle.std.proofs.Common.{◌+◌, ◌*◌, set, sym, refl, ap, ◌∙◌}
+use Rattle.ring.specs.Disturbances.{frame_becomes}
 use Rattle.ring.specs.Lent.{stage_in}
-use Rattle.ring.proofs.DisturbLaws.{anew_ap, frame_state}
+use Rattle.ring.proofs.DisturbLaws.{anew_ap, frame_numbers, frame_state}
 use Rattle.ring.proofs.KeptLaws.{frame_whole}
-use Rattle.ring.proofs.StageLaws.{restarts, step_kept}
-use Rattle.ring.proofs.TickLaws.{kept_length, kept_numbers, ring_same}
+use Rattle.ring.proofs.StageLaws.{restarts, step_length}
+use Rattle.ring.proofs.TickLaws.{ring_same}
 use Rattle.ring.proofs.stage.Stage.disturb_frame.Goals as goal
-
-pub disturb-requires : goal.disturb-requires
-disturb-requires c =
-    let x = c.args.self.now in
-    let h = step_kept x c.requires.in_step in
-    record {
-      counted = kept_numbers x.settings.now (stage_in x).machine x.numbers.now x.tally h;
-      there = omega (arith, kept_length x.settings.now (stage_in x).machine x.numbers.now x.tally h, c.requires.there);
-    }
 
 pub returns : goal.returns
 returns c =
@@ -27,5 +18,5 @@ returns c =
     let h = c.requires.in_step in
     let e = c.disturb.ensures.after in
     restarts x _ (frame_becomes i c.args.frame m) (frame_whole o i c.args.frame m h.sound.whole c.requires.there) (record { settings = refl; posts = refl; lines = refl; numbers = refl }) refl refl
-    (c.disturb.ensures.value o.k ∙ anew_ap (ring_same o s (kept_length o m s x.tally (step_kept x h))) (sym e))
+    (c.disturb.ensures.value o.k ∙ anew_ap (ring_same o s (step_length x h)) (sym e))
     (e ∙ (ap (set s (3 * i + 1)) c.number.ensures ∙ (ap (frame_numbers o.k i c.args.frame) h.same ∙ sym (frame_state o m h.sound.whole i c.requires.there c.args.frame))))

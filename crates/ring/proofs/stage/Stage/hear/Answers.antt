@@ -1,5 +1,5 @@
 -- A frame that is lost or refused changes nothing; of any other the number is noted as the end's.
-use Rattle.std.proofs.Common.{◌≡◌, ◌+◌, ◌*◌, ◌<◌, true, false, set, sym, refl, ap, ◌∙◌, subst, arith, MatchOption}
+use Rattle.std.proofs.Common.{◌≡◌, ◌+◌, ◌*◌, ◌<◌, true, false, set, sym, refl, ap, ◌∙◌, subst, MatchOption}
 use Rattle.posts.specs.Promise.{Refreshed}
 use Rattle.posts.specs.Steps.{hear_step}
 use Rattle.lines.specs.Checks.{first_fault}
@@ -10,8 +10,7 @@ use Rattle.ring.specs.Machine.{Machine, post_at, line_at, hear, hear_of, state_i
 use Rattle.ring.specs.Numbers.{preceding, end_before}
 use Rattle.ring.specs.Tallies.{noted}
 use Rattle.ring.proofs.HearLaws.{accepted_heard, hear_lines, same_after_lost, same_after_refused, machine_heard, quiet_tally, heard_state, heard_tally}
-use Rattle.ring.proofs.StageLaws.{comes, step_kept}
-use Rattle.ring.proofs.TickLaws.{kept_length, kept_numbers}
+use Rattle.ring.proofs.StageLaws.{comes}
 use Rattle.ring.proofs.stage.Stage.hear.Goals as goal
 
 pub returns-then-line : goal.returns-then-line
@@ -26,14 +25,6 @@ returns-then-line c =
     let e : hear_of o i m ≡ m = same_after_lost o m h.sound.whole i c.requires.there b in
     comes x _ (hear i) h c.requires.there (record { settings = refl; posts = refl; lines = refl; numbers = refl })
     (sym (ap (λ (z : Machine). z.posts) e)) (hear_lines o m i) (quiet_tally o m h.sound.whole i c.requires.there x.tally e) (h.same ∙ sym (ap (state_in o) e))
-
-pub note-requires : goal.note-requires
-note-requires c =
-    let x = c.args.self.now in
-    let o = x.settings.now in
-    let m = (stage_in x).machine in
-    let h = step_kept x c.requires.in_step in
-    record { counted = kept_numbers o m x.numbers.now x.tally h; there = omega (arith, kept_length o m x.numbers.now x.tally h, c.sender-before.ensures.below); room = c.requires.room }
 
 pub returns-in-Some : goal.returns-in-Some
 unfolding step

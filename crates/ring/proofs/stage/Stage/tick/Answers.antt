@@ -1,13 +1,11 @@
 -- The post's number is noted first, then the frame's where it sends.
-use Rattle.std.proofs.Common.{◌≡◌, ℕ, ◌+◌, ◌*◌, Bool, true, false, cond, List, length, set, Some, None, sym, refl, ap, ◌∙◌, subst, arith, length-set}
+use Rattle.std.proofs.Common.{◌≡◌, ℕ, ◌+◌, ◌*◌, Bool, true, false, cond, List, set, Some, None, sym, refl, ap, ◌∙◌}
 use Rattle.std.proofs.lemmas.List.{set-get_or}
-use Rattle.members.specs.Answers.{ring_of}
 use Rattle.ring.specs.Machine.{line_at, sent_on, step, tick, unused}
 use Rattle.ring.specs.Lent.{stage_in}
-use Rattle.ring.specs.Tallies.{Counted}
-use Rattle.ring.proofs.Holders.{noted_moves, noted_ap}
-use Rattle.ring.proofs.StageLaws.{comes, step_kept}
-use Rattle.ring.proofs.TickLaws.{ring_set, kept_length, kept_numbers, noted_kept, state_silent, state_sent, tally_silent, tally_sent}
+use Rattle.ring.proofs.Holders.{noted_ap}
+use Rattle.ring.proofs.StageLaws.{comes}
+use Rattle.ring.proofs.TickLaws.{ring_set, state_silent, state_sent, tally_silent, tally_sent}
 use Rattle.ring.proofs.stage.Stage.tick.Goals as goal
 
 -- what was sent, by whether it was
@@ -18,34 +16,6 @@ none_sent false f e = refl
 some_sent : (b : Bool) (f g : List ℕ) → cond b (Some f) None ≡ Some g → (b ≡ true) × (f ≡ g)
 some_sent true f g e = (refl, cc)
 some_sent false f g e = (cc, cc)
-
-pub note-requires : goal.note-requires
-note-requires c =
-    let x = c.args.self.now in
-    let h = step_kept x c.requires.in_step in
-    record {
-      counted = kept_numbers x.settings.now (stage_in x).machine x.numbers.now x.tally h;
-      there = omega (arith, kept_length x.settings.now (stage_in x).machine x.numbers.now x.tally h, c.requires.there);
-      room = omega (arith, c.requires.room);
-    }
-
-pub note-requires-in-Some : goal.note-requires-in-Some
-note-requires-in-Some c =
-    let x = c.args.self.now in
-    let s = x.numbers.now in
-    let m = (stage_in x).machine in
-    let h = step_kept x c.requires.in_step in
-    let i = c.args.i in
-    let v = c.tick.result.0.memory.number in
-    let n = kept_length x.settings.now m s x.tally h in
-    let a = c.note.ensures.after in
-    let y = c.note.ensures.value in
-    let k = noted_kept s (3 * i) v x.tally c.note.new.self (kept_numbers x.settings.now m s x.tally h) (omega (arith, n, c.requires.there)) y in
-    record {
-      counted = subst (λ t. Counted t c.note.new.self.holders) (sym a) k;
-      there = omega (arith, ap length a, length-set s (3 * i) v, n, c.requires.there);
-      room = omega (arith, ap (λ z. z.moves) (y 0), noted_moves (ring_of 0 s) s (set s (3 * i) v) x.tally, c.requires.room);
-    }
 
 pub returns-in-Some : goal.returns-in-Some
 unfolding step
