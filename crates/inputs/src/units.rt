@@ -69,6 +69,7 @@ impl<R: BufRead> Units<R> {
         ensures stop { IfErr result (StopsAt (vec_len self.new.text)) }
         ensures count { GoesUp self.old.lines self.new.lines }
     {
+        // an input may have no end, but a loop has to
         for _turn in 0..u64::MAX {
             self.text.clear();
             if self.input.read_until(b'\n', &mut self.text)? == 0 {

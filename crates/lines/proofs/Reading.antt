@@ -12,7 +12,7 @@ use Rattle.lines.specs.declared.fault.Fault.TheVariants.{Malformed, OutOfRange, 
 use Rattle.lines.specs.Faults.{number_of}
 use Rattle.lines.specs.Checks.{Check, before, first_fault}
 use Rattle.sums.specs.Value.{value_of}
-use Rattle.lines.specs.Units.{Rule, Field, byte_that, word_that, missing, failing, too_many, stray, rule_checks, field_checks, unit_checks, rule_fault, reading_fault, Rising, Laid}
+use Rattle.lines.specs.Units.{Rule, Field, word_that, missing, failing, too_many, stray, rule_checks, field_checks, unit_checks, rule_fault, reading_fault, Rising, Laid}
 use Rattle.lines.proofs.FirstFault.{head_broken, InOrder, first_broken_in_order, some_none, first_with_last}
 
 fault_in : Option Check → Option Fault
@@ -124,20 +124,6 @@ field_there f fs bs w wide h =
     ∙ cond-false _ _ _ (le-ltb (length bs) w h)
 
 module _ (f : Fault) (passes : ℕ → Bool) (fs : List Field) where
-  byte_there : (bs : List ℕ) → 1 ≤ length bs →
-      reading_fault (byte_that f passes ∷ fs) bs ≡ cond (passes (get_or bs 0 0)) (reading_fault fs (drop 1 bs)) (Some f)
-  byte_there [] h = absurd (omega arith)
-  byte_there (b ∷ bs) h =
-      let value : value_of (b ∷ []) ≡ b = omega arith in
-      field_there (byte_that f passes) fs (b ∷ bs) 1 refl h ∙ ap (λ v. cond (passes v) (reading_fault fs bs) (Some f)) value
-
-  pub byte_fails : (bs : List ℕ) → 1 ≤ length bs → passes (get_or bs 0 0) ≡ false → reading_fault (byte_that f passes ∷ fs) bs ≡ Some f
-  byte_fails bs h e = byte_there bs h ∙ cond-false _ _ _ e
-
-  pub byte_passes : (bs : List ℕ) → 1 ≤ length bs → passes (get_or bs 0 0) ≡ true →
-      reading_fault (byte_that f passes ∷ fs) bs ≡ reading_fault fs (drop 1 bs)
-  byte_passes bs h e = byte_there bs h ∙ cond-true _ _ _ e
-
   word_there : (bs : List ℕ) (v : ℕ) → 2 ≤ length bs → v ≡ get_or bs 0 0 * 256 + get_or bs 1 0 →
       reading_fault (word_that f passes ∷ fs) bs ≡ cond (passes v) (reading_fault fs (drop 2 bs)) (Some f)
   word_there [] v h e = absurd (omega arith)

@@ -6,7 +6,7 @@ use Rattle.lines.specs.declared.fault.Fault.{Fault}
 use Rattle.lines.specs.declared.fault.Fault.TheVariants.{Malformed}
 use Rattle.sums.specs.Value.{value_of}
 use Rattle.lines.specs.Units.{Field, byte_that, kind_byte, rule_fault, reading_fault}
-use Rattle.lines.proofs.Reading.{field_missing, field_there, rest_after_lem}
+use Rattle.lines.proofs.Reading.{field_missing, field_there}
 
 -- a bytes are taken, these fields are left, and they decide the fault
 abbrev pub Left : List ℕ → Option Fault → ℕ → List Field → Type 0
@@ -76,26 +76,6 @@ module _ (bs : List ℕ) (a : ℕ) (rest : List ℕ) (is : rest ≡ drop a bs) w
 
   pub rest_item : (i : ℕ) → get_or rest i 0 ≡ get_or bs (a + i) 0
   rest_item i = ap (λ xs. get_or xs i 0) is ∙ get_or-drop a bs i 0
-
--- the rests after the kind and after the byte that follows it
-pub record Rests (bs : List ℕ) : Type 0 where
-  pub kind_long : length (rest_after 1 bs) ≡ length bs - 1
-  pub second : get_or (rest_after 1 bs) 0 0 ≡ get_or bs 1 0
-  pub second_rest : rest_after 1 (rest_after 1 bs) ≡ drop 2 bs
-  pub second_long : length (rest_after 1 (rest_after 1 bs)) ≡ length bs - 2
-  pub third : get_or (rest_after 1 (rest_after 1 bs)) 0 0 ≡ get_or bs 2 0
-
-pub rests : (bs : List ℕ) → Rests bs
-rests bs =
-    let a = rest_after_lem bs 0 1 bs refl in
-    let b = rest_after_lem bs 1 1 (rest_after 1 bs) a in
-    record {
-      kind_long = rest_long bs 1 (rest_after 1 bs) a;
-      second = rest_item bs 1 (rest_after 1 bs) a 0;
-      second_rest = b;
-      second_long = rest_long bs 2 (rest_after 1 (rest_after 1 bs)) b;
-      third = rest_item bs 2 (rest_after 1 (rest_after 1 bs)) b 0;
-    }
 
 -- m bytes from a place on, one by one
 abbrev pub items : ℕ → ℕ → List ℕ → List ℕ

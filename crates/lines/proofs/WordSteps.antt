@@ -2,7 +2,7 @@
 use Rattle.std.proofs.Common.{◌≡◌, ℕ, zero, suc, ◌+◌, ◌-◌, ◌*◌, ◌/◌, ◌%◌, ◌<◌, ◌≤◌, leb, List, [], ◌∷◌, ◌++◌, length, get_or, take, drop, set, replicate, Some, None, sym, refl, ap, ◌∙◌, subst, inl, inr, append_assoc, arith}
 use Rattle.std.specs.List.{AllByRecursion}
 use Rattle.std.proofs.ByRecursion.{All-push, All-get_or}
-use Rattle.std.proofs.lemmas.List.{take_more_set, take_rest, take_all, drop-drop, drop-set-lt, get_or-drop, length-set, flat_map_more, nil_from_length, append-nil, drop-replicate, get_or-replicate, get_or_past, length-replicate, get_or_append_left, get_or-append_right, length-take-le}
+use Rattle.std.proofs.lemmas.List.{take_more_set, take_rest, take_all, drop-drop, drop-set-lt, get_or-drop, length-set, flat_map_more, nil_from_length, append-nil, drop-replicate, get_or-replicate, get_or_past, length-replicate, get_or_append_left, get_or-append_right}
 use Rattle.std.proofs.lemmas.Bool.{le-leb, lt-leb, cases_lt}
 use Rattle.lines.specs.declared.fault.Fault.{Fault}
 use Rattle.lines.specs.declared.fault.Fault.TheVariants.{Malformed}
@@ -107,11 +107,6 @@ module _ (ws zs : List ℕ) (n : ℕ) (long : length ws ≡ n) (zero-all : (i : 
         | inl l ↦ let k : i < length ws = omega arith in rw (get_or_append_left ws zs 0 i k) (All-get_or (λ x. x ≤ m) ws i 0 k h)
         | inr g ↦ rw (padded_past i g) (omega arith)
       ]
-
--- the part of an array of zeros that is lent has so many places
-pub lent_places : (size n count : ℕ) → n ≡ count → count ≤ size → length (take (n - 0) (replicate {A = ℕ} size 0)) ≡ count
-lent_places size n count e h =
-    length-take-le (n - 0) (replicate {A = ℕ} size 0) (simp length-replicate (omega arith)) ∙ omega arith
 
 pub words_laid : (f : Fault) (largest n : ℕ) → Laid (replicate n (word_up_to f largest))
 words_laid f largest zero = tt

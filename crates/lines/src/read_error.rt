@@ -33,7 +33,7 @@ impl From<AllocError> for ReadError {
 }
 
 impl Ending {
-    // As `settle`, of an answer that needed memory.
+    // As `settle`, of an answer that needed memory. They are two since a clause over any error would have to say of each what its fault is.
     pub fn settle_read<T: Drop>(self, answer: Result<T, ReadError>) -> Result<T, ReadError>
         ensures value { result ≡ settled (RefusedFor Malformed) self answer }
         ensures fault { (bs : List ℕ) (fs : List Field) → Laid fs → (answer ≢ Err Memory) → refusal answer ≡ first_fault (unit_checks bs fs) → refusal result ≡ first_fault (line_checks record { bytes = bs; ending = self } fs) }

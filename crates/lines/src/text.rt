@@ -14,7 +14,7 @@ fn digit(value: u8) -> char
     char::from_digit(u32::from(value), 16).unwrap()
 }
 
-// Where memory fails, the text has a first part of what was to be added.
+// Where memory fails, the text has a first part of what was to be added; of that a formatted write (`{:02x}`) says nothing.
 fn push_byte(text: &mut String, byte: u8) -> Result<(), AllocError>
     ensures value { OnOk result (string_bytes text.new ≡ string_bytes text.old ++ byte_text byte) }
     ensures first { OnErr result ((rest : List ℕ) × (string_bytes text.new ++ rest ≡ string_bytes text.old ++ byte_text byte)) }

@@ -52,6 +52,7 @@ fn run(rt: &HostRuntime) -> Result<(), Stop> {
     let ending = units.required()?;
     let place = ending.settle(read_place(units.unit(ending).bytes, &settings))?;
     let mut post = Post::new(place, Memory::from_bytes([0; 16]), &settings)?;
+    // an input may have no end, but a loop has to
     for _ in 0..u64::MAX {
         let Some(ending) = units.next_unit()? else {
             break;
