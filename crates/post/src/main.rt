@@ -32,10 +32,8 @@ fn print(rt: &HostRuntime, post: Post, reply: Reply) -> Result<(), Stop> {
     match reply {
         Reply::Acted(act) => print_act(rt, act)?,
         Reply::Shown => {
-            let place = post.place();
-            let moves = post.memory.moves;
-            let since = post.memory.since;
-            println!(rt; "post {place}: {moves} goings on, {since} ticks since")?;
+            let counts = post.counts();
+            println!(rt; "{counts}")?;
         }
     }
     Ok(())

@@ -1,7 +1,7 @@
 -- Laws of one post. Assumes nothing.
 pub mod Bytes
 pub mod Norms
-pub mod Counts
+pub mod CountLaws
 pub mod Thens
 pub mod Ticks
 pub mod Hearing

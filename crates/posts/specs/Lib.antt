@@ -4,3 +4,4 @@ pub mod Rule
 pub mod Steps
 pub mod Promise
 pub mod Code
+pub mod CountsText

@@ -2,6 +2,7 @@
 #![tactic(auto)]
 
 mod act;
+mod counts;
 mod deeds;
 mod memory;
 mod post;
@@ -10,6 +11,7 @@ mod seat;
 mod told;
 
 pub use act::Act;
+pub use counts::Counts;
 pub use deeds::Deeds;
 pub use memory::Memory;
 pub use post::Post;

@@ -3,10 +3,11 @@ ghost use Rattle.std.specs.Prelude.{◌≡◌, suc, ◌≤◌, min, MatchOption,
 ghost use Rattle.posts.specs.Steps.{seated, has_token, deeds_in, frame_of, tick_step, hear_step, with_button, quiet, event_of, step_at};
 ghost use Rattle.posts.specs.Promise.{Tidied, Refreshed, CountsStay, Reaches, SendsWithin, MovesAfter, Waits, SameForEver};
 ghost use Rattle.posts.specs.Code.{PostLaws};
+ghost use Rattle.posts.specs.CountsText.{counts_of};
 
 use crate::rule::in_range;
 use crate::seat::Seat;
-use crate::{Act, Deeds, Memory, Told};
+use crate::{Act, Counts, Deeds, Memory, Told};
 use frames::{Fault, Settings, read_frame, write_frame};
 
 #[derive(Clone, Copy, PartialEq, Eq, Debug)]
@@ -37,6 +38,16 @@ impl Post {
         ensures { result ≡ self.place }
     {
         self.place
+    }
+
+    pub fn counts(self) -> Counts
+        ensures { result ≡ counts_of self }
+    {
+        Counts {
+            post: self.place,
+            moves: self.memory.moves,
+            since: self.memory.since,
+        }
     }
 
     // Where it stands in the ring of these settings.

@@ -196,3 +196,13 @@ fn places_and_bytes(rt: HostRuntime) -> Result<(), Fail> {
     assert_eq!(rt; post.ticks_to_moving(&settings), Some(1000));
     Ok(())
 }
+
+#[test]
+fn counts_are_shown(rt: HostRuntime) -> Result<(), Fail> {
+    let settings = read_settings(&TWO_POSTS)?;
+    let post = Post::new(1, remembered([0; 4], 4_294_967_295, 7), &settings)?;
+    let counts = post.counts();
+    let text = format!(in rt.alloc(); "{counts}")?;
+    assert_eq!(rt; text.as_str(), "post 1: 4294967295 goings on, 7 ticks since");
+    Ok(())
+}

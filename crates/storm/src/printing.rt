@@ -4,6 +4,7 @@ ghost use Rattle.std.specs.Iterator.{IsFinite};
 use frames::{Member, Settings};
 use inputs::Stop;
 use members::{has_token, most_moves};
+use posts::Counts;
 use ring::{Report, Said};
 use std::io::{BufWriter, Write};
 
@@ -100,7 +101,12 @@ impl Printer {
                 since,
             } => {
                 self.print_show(out, numbers, speakers)?;
-                writeln!(out, "; post {post}: {moves} goings on, {since} ticks since")?;
+                let counts = Counts {
+                    post: *post,
+                    moves: *moves,
+                    since: *since,
+                };
+                writeln!(out, "; {counts}")?;
             }
             Said::Refused { line, fault } => {
                 let line = line.saturating_add(self.lines_before);

@@ -1,5 +1,5 @@
 -- No step looks at the counts.
-use Rattle.posts.proofs.Counts.{same_for_ever}
+use Rattle.posts.proofs.CountLaws.{same_for_ever}
 use Rattle.posts.proofs.post.Post.step.Goals as goal
 
 pub returns-in-Tick-clause-counts : goal.returns-in-Tick-clause-counts
