@@ -2,7 +2,7 @@
 use crate::Tally;
 use frames::Fault;
 
-#[derive(PartialEq, Eq, Debug, Drop)]
+#[derive(Clone, PartialEq, Eq, Debug, Drop)]
 pub enum Said {
     // a show: all numbers, for each post whether it would speak in a tick, and the counts in the memory of this post
     Shown {

@@ -10,7 +10,8 @@ use crate::{Line, Tally};
 use frames::Settings;
 use posts::{Memory, Post, in_range};
 
-// What each step needs and keeps is `InStep`. It is no ghost field, since it doesn't hold between two writes through the lent slices.
+// What each step needs and keeps is `InStep`. It is no ghost field, since it would have to hold after each single write to a lent slice, and no invariant
+// behind a model, since `play` would then not know what the slices hold in the end.
 #[derive(Drop)]
 pub(crate) struct Stage<'a> {
     pub settings: &'a Settings,
@@ -21,6 +22,7 @@ pub(crate) struct Stage<'a> {
     pub tally: Tally,
 }
 
+#[tactic(auto, using(crate::proofs::StageLaws::step_length, crate::proofs::StageLaws::step_numbers))]
 impl Stage<'_> {
     // The post whose line leads to post `i`.
     fn sender(&self, i: usize) -> usize
@@ -33,7 +35,6 @@ impl Stage<'_> {
     }
 
     // A tick of post `i`.
-    #[tactic(auto, using(crate::proofs::StageLaws::step_length, crate::proofs::StageLaws::step_numbers))]
     pub(crate) fn tick(&mut self, i: usize)
         requires in_step { InStep self.old }
         requires there { i < self.old.settings.now.posts }
@@ -44,17 +45,13 @@ impl Stage<'_> {
         self.posts[i] = post;
         let number = post.memory.number;
         self.tally.note(self.numbers, 3 * i, number);
-        match act.sends {
-            Some(frame) => {
-                self.lines[i] = Line { frame, lost: false };
-                self.tally.note(self.numbers, 3 * i + 1, number);
-            }
-            None => {}
+        if let Some(frame) = act.sends {
+            self.lines[i] = Line { frame, lost: false };
+            self.tally.note(self.numbers, 3 * i + 1, number);
         }
     }
 
     // Post `i` hears the line before it.
-    #[tactic(auto, using(crate::proofs::StageLaws::step_length, crate::proofs::StageLaws::step_numbers))]
     pub(crate) fn hear(&mut self, i: usize)
         requires in_step { InStep self.old }
         requires there { i < self.old.settings.now.posts }
@@ -68,12 +65,9 @@ impl Stage<'_> {
         }
         let (post, act) = self.posts[i].hear(&line.frame, self.settings);
         self.posts[i] = post;
-        match act.refuses {
-            Some(_) => {}
-            None => {
-                let heard = post.memory.heard;
-                self.tally.note(self.numbers, 3 * before + 2, heard);
-            }
+        if act.refuses.is_none() {
+            let heard = post.memory.heard;
+            self.tally.note(self.numbers, 3 * before + 2, heard);
         }
     }
 
@@ -96,7 +90,6 @@ impl Stage<'_> {
     }
 
     // The memory of post `i` becomes another: its number and the end of the line to it may change.
-    #[tactic(auto, using(crate::proofs::StageLaws::step_length, crate::proofs::StageLaws::step_numbers))]
     pub(crate) fn disturb_memory(&mut self, i: usize, memory: Memory)
         requires in_step { InStep self.old }
         requires there { i < self.old.settings.now.posts }
@@ -111,7 +104,6 @@ impl Stage<'_> {
     }
 
     // The frame on the line from post `i` becomes another, which isn't lost: its number may change.
-    #[tactic(auto, using(crate::proofs::StageLaws::step_length, crate::proofs::StageLaws::step_numbers))]
     pub(crate) fn disturb_frame(&mut self, i: usize, frame: [u8; 6])
         requires in_step { InStep self.old }
         requires there { i < self.old.settings.now.posts }

@@ -1,6 +1,7 @@
 -- The post's number is noted first, then the frame's where it sends.
 use Rattle.std.proofs.Common.{◌≡◌, ℕ, ◌+◌, ◌*◌, Bool, true, false, cond, List, set, Some, None, sym, refl, ap, ◌∙◌}
 use Rattle.std.proofs.lemmas.List.{set-get_or}
+use Rattle.std.proofs.lemmas.Option.{cond_some}
 use Rattle.ring.specs.Machine.{line_at, sent_on, step, tick, unused}
 use Rattle.ring.specs.Lent.{stage_in}
 use Rattle.ring.proofs.Holders.{noted_ap}
@@ -8,14 +9,10 @@ use Rattle.ring.proofs.StageLaws.{comes}
 use Rattle.ring.proofs.TickLaws.{ring_set, state_silent, state_sent, tally_silent, tally_sent}
 use Rattle.ring.proofs.stage.Stage.tick.Goals as goal
 
--- what was sent, by whether it was
+-- nothing is sent
 none_sent : (b : Bool) (f : List ℕ) → cond b (Some f) None ≡ None → b ≡ false
 none_sent true f e = cc
 none_sent false f e = refl
-
-some_sent : (b : Bool) (f g : List ℕ) → cond b (Some f) None ≡ Some g → (b ≡ true) × (f ≡ g)
-some_sent true f g e = (refl, cc)
-some_sent false f g e = (cc, cc)
 
 pub returns-in-Some : goal.returns-in-Some
 unfolding step
@@ -29,7 +26,7 @@ returns-in-Some c =
     let v = c.tick.result.0.memory.number in
     let e = sym (ap (λ z. z.0.memory.number) c.tick.ensures.value) in
     let q = sym (ap (λ z. z.1.sends) c.tick.ensures.value) ∙ c.in-Some.is in
-    let b = (some_sent _ _ _ q).0 in
+    let b = (cond_some _ _ _ q).0 in
     let a = c.note.ensures.after in
     comes x _ (tick i) h c.requires.there (record { settings = refl; posts = refl; lines = refl; numbers = refl })
     (ap (λ z. set m.posts i z.0) c.tick.ensures.value)
@@ -39,9 +36,9 @@ returns-in-Some c =
     tally_sent o m h.sound.whole i c.requires.there s h.same v e x.tally b))
     (c.note-in-Some.ensures.after ∙ (ap (λ t. set t (3 * i + 1) v) a ∙ state_sent o m h.sound.whole i c.requires.there s h.same v e x.tally b))
 
-pub returns-in-None : goal.returns-in-None
+pub returns-in_default : goal.returns-in_default
 unfolding step
-returns-in-None c =
+returns-in_default c =
     let x = c.args.self.now in
     let o = x.settings.now in
     let m = (stage_in x).machine in
@@ -50,7 +47,7 @@ returns-in-None c =
     let i = c.args.i in
     let v = c.tick.result.0.memory.number in
     let e = sym (ap (λ z. z.0.memory.number) c.tick.ensures.value) in
-    let q = sym (ap (λ z. z.1.sends) c.tick.ensures.value) ∙ c.in-None.is in
+    let q = sym (ap (λ z. z.1.sends) c.tick.ensures.value) ∙ c.in_default.is in
     let b = none_sent _ _ q in
     comes x _ (tick i) h c.requires.there (record { settings = refl; posts = refl; lines = refl; numbers = refl })
     (ap (λ z. set m.posts i z.0) c.tick.ensures.value)
