@@ -8,7 +8,7 @@ ghost use Rattle.ring.specs.Promise.{ring_of_settings};
 ghost use Rattle.ring.specs.Tallies.{anew};
 
 use crate::{Line, PlayError, Tally};
-use frames::Settings;
+use frames::{Member, Settings};
 use members::{how_many_may, member_after};
 use posts::{Post, in_range};
 
@@ -28,12 +28,11 @@ fn member_number(settings: &Settings, posts: &[Post], lines: &[Line], j: usize) 
     requires there { j < 3 * settings.now.posts }
     ensures { result ≡ member_of settings.now.posts (numbers_of settings.now record { posts = posts.now; lines = lines.now }) j }
 {
-    let i = j / 3;
     let k = settings.k;
-    match j % 3 {
-        0 => in_range(posts[i].memory.number, k),
-        1 => lines[i].number(k),
-        _ => in_range(posts[member_after(posts.len(), i)].memory.heard, k),
+    match Member::from(j) {
+        Member::Post(i) => in_range(posts[i].memory.number, k),
+        Member::Frame(i) => lines[i].number(k),
+        Member::End(i) => in_range(posts[member_after(posts.len(), i)].memory.heard, k),
     }
 }
 

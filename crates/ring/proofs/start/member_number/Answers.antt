@@ -1,4 +1,4 @@
--- By the part of the member: a post, a frame or an end.
+-- By what the member is: a post, a frame or an end.
 use Rattle.std.proofs.Common.{◌≡◌, ◌/◌, ◌%◌, ◌<◌, sym, ap, ◌∙◌, arith}
 use Rattle.members.specs.Ring.{up}
 use Rattle.members.proofs.Steps.{up_below}
@@ -8,28 +8,36 @@ use Rattle.ring.specs.Numbers.{member_of}
 use Rattle.ring.proofs.Machines.{numbers_own, numbers_sent, numbers_heard}
 use Rattle.ring.proofs.start.member_number.Goals as goal
 
-pub returns-in-0 : goal.returns-in-0
+pub returns-in-Post : goal.returns-in-Post
 unfolding member_of
-returns-in-0 c =
+returns-in-Post c =
     let o = c.args.settings.now in
     let m : Machine = record { posts = c.args.posts.now; lines = c.args.lines.now } in
-    let l : c.args.j / 3 < o.posts = omega (arith, c.requires.there) in
-    rw c.in-0.is (c.in_range.ensures ∙ sym (numbers_own o o.posts m c.requires.whole (c.args.j / 3) l))
+    let i = c.in-Post.i in
+    let part : c.args.j % 3 ≡ 0 = omega (arith, c.in-Post.ensures) in
+    let at : c.args.j / 3 ≡ i = omega (arith, c.in-Post.ensures) in
+    let l : i < o.posts = omega (arith, c.in-Post.ensures, c.requires.there) in
+    rw (part, at) (c.in_range.ensures ∙ sym (numbers_own o o.posts m c.requires.whole i l))
 
-pub returns-in-1 : goal.returns-in-1
+pub returns-in-Frame : goal.returns-in-Frame
 unfolding member_of
-returns-in-1 c =
+returns-in-Frame c =
     let o = c.args.settings.now in
     let m : Machine = record { posts = c.args.posts.now; lines = c.args.lines.now } in
-    let l : c.args.j / 3 < o.posts = omega (arith, c.requires.there) in
-    rw c.in-1.is (c.number.ensures ∙ sym (numbers_sent o o.posts m c.requires.whole (c.args.j / 3) l))
+    let i = c.in-Frame.i in
+    let part : c.args.j % 3 ≡ 1 = omega (arith, c.in-Frame.ensures) in
+    let at : c.args.j / 3 ≡ i = omega (arith, c.in-Frame.ensures) in
+    let l : i < o.posts = omega (arith, c.in-Frame.ensures, c.requires.there) in
+    rw (part, at) (c.number.ensures ∙ sym (numbers_sent o o.posts m c.requires.whole i l))
 
-pub returns-in_default : goal.returns-in_default
+pub returns-in-End : goal.returns-in-End
 unfolding member_of
-returns-in_default c =
+returns-in-End c =
     let o = c.args.settings.now in
     let m : Machine = record { posts = c.args.posts.now; lines = c.args.lines.now } in
-    let i = c.args.j / 3 in
-    let p : c.args.j % 3 ≡ 2 = omega arith in
+    let i = c.in-End.i in
+    let part : c.args.j % 3 ≡ 2 = omega (arith, c.in-End.ensures) in
+    let at : c.args.j / 3 ≡ i = omega (arith, c.in-End.ensures) in
+    let l : i < o.posts = omega (arith, c.in-End.ensures, c.requires.there) in
     let e : c.member_after.result ≡ up o.posts i = c.member_after.ensures ∙ ap (λ n. up n i) c.requires.whole.count_of_posts in
-    rw p (c.in_range-in_default.ensures ∙ (ap (λ x. heard_in o.k (post_at m x).memory) e ∙ sym (numbers_heard o o.posts m c.requires.whole (up o.posts i) (up_below o.posts i (omega arith)))))
+    rw (part, at) (c.in_range-in-End.ensures ∙ (ap (λ x. heard_in o.k (post_at m x).memory) e ∙ sym (numbers_heard o o.posts m c.requires.whole (up o.posts i) (up_below o.posts i (omega (arith, l))))))
