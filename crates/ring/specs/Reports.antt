@@ -17,7 +17,7 @@ use Rattle.ring.specs.Promise.{ring_of_settings}
 
 -- what a report says of a line
 abbrev pub saying_of : Said → Saying
-saying_of (Shown p s b moves since) = shown p (vec_items s) (vec_items b) moves since
+saying_of (Shown s b c) = shown c.post (vec_items s) (vec_items b) c.moves c.since
 saying_of (Refused line fault) = refused line fault
 
 -- the sayings that ys report are those of xs and then some more

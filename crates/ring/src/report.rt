@@ -1,16 +1,15 @@
 // What is said of a script that was played.
 use crate::Tally;
 use frames::Fault;
+use posts::Counts;
 
 #[derive(Clone, PartialEq, Eq, Debug, Drop)]
 pub enum Said {
-    // a show: all numbers, for each post whether it would speak in a tick, and the counts in the memory of this post
+    // a show: all numbers, for each post whether it would speak in a tick, and the counts of one post
     Shown {
-        post: u8,
         numbers: Vec<u16>,
         speakers: Vec<bool>,
-        moves: u32,
-        since: u32,
+        counts: Counts,
     },
     // a line that was refused
     Refused {

@@ -8,7 +8,7 @@ ghost use Rattle.ring.specs.Reports.{saying_of};
 use crate::Said;
 use crate::stage::Stage;
 use frames::Settings;
-use posts::Post;
+use posts::{Counts, Post};
 use std::alloc::{AllocError, Global};
 
 // For each post whether it would speak in a tick now.
@@ -30,11 +30,13 @@ impl Stage<'_> {
     {
         let memory = self.posts[usize::from(post)].memory;
         Ok(Said::Shown {
-            post,
             numbers: self.numbers.to_vec(heap)?,
             speakers: speakers_of(heap, self.settings, self.posts)?,
-            moves: memory.moves,
-            since: memory.since,
+            counts: Counts {
+                post,
+                moves: memory.moves,
+                since: memory.since,
+            },
         })
     }
 }

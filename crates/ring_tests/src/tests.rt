@@ -131,11 +131,13 @@ fn shown(
     since: u32,
 ) -> Result<Said, Fail> {
     Ok(Said::Shown {
-        post: 1,
         numbers: numbers.to_vec(heap)?,
         speakers: speakers.to_vec(heap)?,
-        moves,
-        since,
+        counts: Counts {
+            post: 1,
+            moves,
+            since,
+        },
     })
 }
 

@@ -4,7 +4,6 @@ ghost use Rattle.std.specs.Iterator.{IsFinite};
 use frames::{Member, Settings};
 use inputs::Stop;
 use members::{has_token, most_moves};
-use posts::Counts;
 use ring::{Report, Said};
 use std::io::{BufWriter, Write};
 
@@ -94,18 +93,11 @@ impl Printer {
     fn print_said<W: Write>(self, out: &mut W, said: &Said) -> Result<(), Stop> {
         match said {
             Said::Shown {
-                post,
                 numbers,
                 speakers,
-                moves,
-                since,
+                counts,
             } => {
                 self.print_show(out, numbers, speakers)?;
-                let counts = Counts {
-                    post: *post,
-                    moves: *moves,
-                    since: *since,
-                };
                 writeln!(out, "; {counts}")?;
             }
             Said::Refused { line, fault } => {
