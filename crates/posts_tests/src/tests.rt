@@ -203,6 +203,9 @@ fn counts_are_shown(rt: HostRuntime) -> Result<(), Fail> {
     let post = Post::new(1, remembered([0; 4], 4_294_967_295, 7), &settings)?;
     let counts = post.counts();
     let text = format!(in rt.alloc(); "{counts}")?;
-    assert_eq!(rt; text.as_str(), "post 1: 4294967295 goings on, 7 ticks since");
+    assert_eq!(rt;
+        text.as_str(),
+        "post 1: 4294967295 goings on, 7 ticks since"
+    );
     Ok(())
 }

@@ -93,11 +93,11 @@ module _ (o : Settings) (l : Line) (x : Stage) (n : ℕ) where
 
 -- a line of a script is what is read of it
 pub stage_read : (o : Settings) (text : List ℕ) (x : Stage) → stage_of_line o (line_of text) x ≡ line_stage o text x
-unfolding stage_of_line line_stage
+unfolding line_stage
 stage_read o text x = refl
 
 pub says_read : (o : Settings) (n : ℕ) (text : List ℕ) (m : Machine) → says_of_line o n (line_of text) m ≡ line_says o n text m
-unfolding says_of_line line_says
+unfolding line_says
 says_read o n text m = refl
 
 -- one line more

@@ -121,12 +121,12 @@ stage_of_line o l x = cond (is_blank l) x (stage_by (line_fault o l) o l.bytes x
 unfoldable pub says_of_line : Settings → ℕ → Line → Machine → List Saying
 says_of_line o n l m = cond (is_blank l) [] (says_by (line_fault o l) o n l.bytes m)
 
--- line n of a script: one with nothing on it is passed over, a refused one changes nothing and is said
+-- line n of a script, by its text
 unfoldable pub line_stage : Settings → List ℕ → Stage → Stage
-line_stage o text x = cond (is_blank (line_of text)) x (stage_by (line_fault o (line_of text)) o (line_of text).bytes x)
+line_stage o text x = stage_of_line o (line_of text) x
 
 unfoldable pub line_says : Settings → ℕ → List ℕ → Machine → List Saying
-line_says o n text m = cond (is_blank (line_of text)) [] (says_by (line_fault o (line_of text)) o n (line_of text).bytes m)
+line_says o n text m = says_of_line o n (line_of text) m
 
 -- the lines of a script, one after the other, those before it being n
 unfoldable pub played : Settings → List (List ℕ) → Stage → Stage

@@ -55,7 +55,7 @@ impl Tally {
         Tally {
             holders,
             moves: 0,
-            healed: if holders == 1 { Some(0) } else { None },
+            healed: (holders == 1).then_some(0),
         }
     }
 
