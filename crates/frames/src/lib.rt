@@ -1,4 +1,5 @@
-// Units of bytes: settings, frames and lists of numbers; and the names of members. Assumes nothing.
+// Units of bytes: settings, frames and lists of numbers; and the names of members. A reader is given bytes and settings: those are a line's
+// and these the ring's, so nothing holds both. Assumes nothing.
 #![tactic(auto)]
 
 mod frame;

@@ -26,6 +26,7 @@ impl fmt::Display for Stop {
     }
 }
 
+// The conversions are written out, so that contracts know which error a `?` makes.
 impl From<Fault> for Stop {
     ghost from_gives = { λ f r. r ≡ StopsFor f };
 

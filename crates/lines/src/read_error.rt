@@ -16,6 +16,7 @@ pub enum ReadError {
     Memory,
 }
 
+// The conversions are written out, so that contracts know which error a `?` makes.
 impl From<Fault> for ReadError {
     ghost from_gives = { λ f r. r ≡ RefusedFor f };
 

@@ -13,6 +13,7 @@ use std::process::ExitCode;
 use telling::tell;
 use tidings::Tidings;
 
+// Each line is printed by itself, so tidings have no text of their own.
 fn print(rt: &HostRuntime, tidings: &Tidings) -> Result<(), Stop> {
     match tidings {
         Tidings::One(holder, waits) => {

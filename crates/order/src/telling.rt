@@ -37,6 +37,7 @@ pub fn tell(heap: Global, settings: &Settings, numbers: &[u16]) -> Result<Tiding
         Holders::Several(first, second) => return Ok(Tidings::Several(first, second)),
     };
     let mut waits = Vec::new(heap);
+    // not collected: its proof goes post by post, by what each wait is and not by a value
     for post in 0..settings.posts {
         waits.push(wait_of(settings, numbers, post))?;
     }

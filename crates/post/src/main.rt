@@ -15,6 +15,7 @@ use reply::Reply;
 use std::io::BufReader;
 use std::process::ExitCode;
 
+// Each line is printed by itself, so an act has no text of its own.
 fn print_act(rt: &HostRuntime, act: Act) -> Result<(), Stop> {
     if act.speaks {
         println!(rt; "speaks")?;

@@ -10,7 +10,7 @@ pub struct Act {
     pub moves: bool,
     // the frame that it sends
     pub sends: Option<[u8; 6]>,
-    // why it refuses the bytes that came
+    // why it refuses the bytes that came; no `Err`, since to refuse is one of the things that a post does
     pub refuses: Option<Fault>,
 }
 

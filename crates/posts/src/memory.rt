@@ -35,7 +35,7 @@ fn count(a: u8, b: u8, c: u8, d: u8) -> u32
 }
 
 impl Memory {
-    // The memory that these bytes stand for, and the only one.
+    // The memory that these bytes stand for, and the only one. Named as the library's `from_be_bytes` is: `from` would say less.
     pub fn from_bytes(bytes: [u8; 16]) -> Memory
         ensures value { memory_bytes result ≡ bytes }
         ensures only { (m : Memory) → memory_bytes m ≡ bytes → m ≡ result }

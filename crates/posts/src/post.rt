@@ -1,4 +1,5 @@
-// A post of the ring and its steps, each by value: it gives the new post and what it does. Assumes nothing.
+// A post of the ring and its steps, each by value: it gives the new post and what it does. Settings are the ring's, so each step is lent
+// them. Assumes nothing.
 ghost use Rattle.std.specs.Prelude.{◌≡◌, suc, ◌≤◌, min, MatchOption, OnOk};
 ghost use Rattle.posts.specs.Steps.{seated, has_token, deeds_in, frame_of, tick_step, hear_step, with_button, quiet, event_of, step_at};
 ghost use Rattle.posts.specs.Promise.{Tidied, Refreshed, CountsStay, Reaches, SendsWithin, MovesAfter, Waits, SameForEver};
@@ -127,7 +128,7 @@ impl Post {
         (post, Act::default())
     }
 
-    // What it does with what it is told. Its counts change nothing of it, now or later.
+    // What it does with what it is told, which is one of a closed list. Its counts change nothing of it, now or later.
     pub fn step(self, told: Told<'_>, settings: &Settings) -> (Post, Act)
         ensures value { result ≡ step_at settings.now (event_of told.entry) self }
         ensures counts { SameForEver settings.now self }

@@ -12,23 +12,22 @@ use std::alloc::{AllocError, Global};
 pub fn first_posts(heap: Global, settings: &Settings) -> Result<Vec<Post>, AllocError>
     ensures { IfOk result (λ v. v.items ≡ map post_at_first (range_with_len 0 settings.now.posts)) }
 {
-    let mut posts = Vec::new(heap);
-    for place in 0..settings.posts {
-        let Ok(post) = Post::new(place, Memory::from_bytes([0; 16]), settings) else {
-            unreachable()
-        };
-        posts.push(post)?;
-    }
-    Ok(posts)
+    let zero = Memory::from_bytes([0; 16]);
+    (0..settings.posts)
+        .map(|place| match Post::new(place, zero, settings) {
+            Ok(post) => post,
+            Err(_) => unreachable(),
+        })
+        .collect(heap)
 }
 
 pub fn first_lines(heap: Global, settings: &Settings) -> Result<Vec<Line>, AllocError>
     ensures { IfOk result (λ v. v.items ≡ map line_at_first (range_with_len 0 settings.now.posts)) }
 {
-    let mut lines = Vec::new(heap);
-    for post in 0..settings.posts {
-        let frame = write_frame(post, 0);
-        lines.push(Line { frame, lost: false })?;
-    }
-    Ok(lines)
+    (0..settings.posts)
+        .map(|post| Line {
+            frame: write_frame(post, 0),
+            lost: false,
+        })
+        .collect(heap)
 }

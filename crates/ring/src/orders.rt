@@ -8,7 +8,7 @@ use commands::Order;
 use posts::Memory;
 
 impl Stage<'_> {
-    // Obeys an order to post `i`.
+    // Obeys an order to post `i`. Orders are a closed list, so a match on all of them is plainest.
     #[tactic(auto, unfolding(crate::specs::Plays::obeyed))]
     pub(crate) fn obey(&mut self, i: usize, order: Order)
         requires in_step { InStep self.old }

@@ -12,6 +12,7 @@ pub enum PlayError {
     Memory,
 }
 
+// The conversions are written out, so that contracts know which error a `?` makes.
 impl From<AllocError> for PlayError {
     ghost from_gives = { λ _ r. r ≡ Memory };
 

@@ -95,6 +95,7 @@ pub fn play(
     let mut bytes = Vec::new(heap);
     let mut line = 0;
     let mut rest = script;
+    // from its front: a line of three bytes is taken off before its end is looked for
     while !rest.is_empty() {
         line += 1;
         let three = read_three(rest);

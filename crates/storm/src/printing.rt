@@ -1,4 +1,4 @@
-// A report in text.
+// A report in text, written piece by piece: it may be larger than a text that is held at once.
 ghost use Rattle.std.specs.Iterator.{IsFinite};
 
 use frames::{Member, Settings};

@@ -9,7 +9,7 @@ pub struct Turn {
 }
 
 impl Turn {
-    // The turn of a post that has moved.
+    // The turn of a post that has moved; no `Default`, since its name says when.
     pub fn over() -> Turn
         ensures { result ≡ lasting 0 }
     {
