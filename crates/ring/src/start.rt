@@ -1,4 +1,4 @@
-// The numbers of all members at the beginning, and who may move then. Assumes nothing.
+// The numbers of all members at the beginning, and who may move then: before there is a stage, since the slices may not fit. Assumes nothing.
 ghost use Rattle.std.specs.Prelude.{◌≡◌, ◌*◌, ◌<◌, length, IfOk, MatchBool, MatchResult};
 ghost use Rattle.ring.specs.declared.play_error.PlayError.TheVariants.{Unfit};
 ghost use Rattle.ring.specs.Machine.{Whole, numbers_of, state_in};
