@@ -32,6 +32,26 @@ fit_moves n k x f p l = record {
   heard_below = f.heard_below;
 }
 
+pub fit_sends : (n k : ℕ) (x : Numbers) → Fit n k x → (p : ℕ) → p < n → Fit n k (sends p x)
+fit_sends n k x f p l = record {
+  owns = f.owns;
+  sents = length-set x.sent p _ ∙ f.sents;
+  hearings = f.hearings;
+  own_below = f.own_below;
+  sent_below = set_below n k x.sent p _ f.sents l (f.own_below p l) f.sent_below;
+  heard_below = f.heard_below;
+}
+
+pub fit_hears : (n k : ℕ) (x : Numbers) → Fit n k x → (p : ℕ) → p < n → Fit n k (hears n p x)
+fit_hears n k x f p l = record {
+  owns = f.owns;
+  sents = f.sents;
+  hearings = length-set x.heard p _ ∙ f.hearings;
+  own_below = f.own_below;
+  sent_below = f.sent_below;
+  heard_below = set_below n k x.heard p _ f.hearings l (f.sent_below (preceding n p) (preceding_below n p l)) f.heard_below;
+}
+
 -- from the numbers x to the numbers y the ring makes as many moves as numbers change
 abbrev pub Steps : ℕ → ℕ → Numbers → Numbers → Type 0
 Steps n k x y = Moves (ring_of_posts n k) (state_of n x) (changed (state_of n x) (state_of n y)) (state_of n y)
