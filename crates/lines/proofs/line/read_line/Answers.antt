@@ -1,6 +1,5 @@
 -- What `read_line` owes, character by character. Assumes nothing.
 use Rattle.std.proofs.Common.{◌≡◌, ◌+◌, ◌*◌, ◌<◌, [], ◌∷◌, ◌++◌, length, get_or, drop, Some, None, vec_items, ap, ◌∙◌, subst, arith}
-use Rattle.std.proofs.lemmas.Result.{err_from_is_err_and}
 use Rattle.lines.specs.declared.line.Symbol.TheVariants.{Digit, Blank, Comment, Stray}
 use Rattle.lines.specs.declared.line.Ending.TheVariants.{Whole, Damaged}
 use Rattle.lines.specs.Hex.{reading, line_of}
@@ -19,13 +18,6 @@ returns-in_default c =
     let d = done line held Damaged
     (subst (Remains line held) (cut_byte c.in-Some.digit c.from-symbol.result (reading (drop (c.loop-c.c-index + 1) cs)) c.in_default.not-Digit) seen) in
     record { ending = d.1; bytes = d.0; whole = line_spelled c.args.text.now _ _ d.0 d.1; first = tt }
-
-pub returns-in_err-push-in-Some : goal.returns-in_err-push-in-Some
-returns-in_err-push-in-Some c =
-    let p = err_from_is_err_and c.from_residual.result c.from_residual.ensures.1 in
-    let left = reading (drop c.loop-c.c-index c.without_return-c-items.result.now) c.loop-c.high in
-    let same : vec_items c.push.new.self ≡ vec_items c.loop-c.bytes = c.in_err-push-in-Some.ensures.items in
-    rw p.1 record { ending = tt; bytes = tt; whole = tt; first = (left.bytes, ap (λ bs. bs ++ left.bytes) same ∙ c.loop-c.invariant.0.bytes) }
 
 pub returns-in-Comment : goal.returns-in-Comment
 returns-in-Comment c =

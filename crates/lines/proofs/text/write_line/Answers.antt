@@ -2,20 +2,13 @@
 use Rattle.std.proofs.Common.{◌≡◌, [], ◌∷◌, ◌++◌, get_or, take, drop, string_bytes, sym, ap, ◌∙◌, arith}
 use lib.Utf8.{encode}
 use Rattle.std.proofs.ByRecursion.{All-from_get_or}
-use Rattle.std.proofs.lemmas.List.{append_assoc, append-nil, take_all, nil_from_length}
+use Rattle.std.proofs.lemmas.List.{append_assoc, take_all}
 use Rattle.std.proofs.lemmas.Result.{err_from_is_err_and}
-use Rattle.std.proofs.lemmas.Bool.{ltb-true, ltb-false}
+use Rattle.std.proofs.lemmas.Bool.{ltb-false}
 use Rattle.lines.specs.Hex.{line_of, byte_text, hex_text}
-use Rattle.lines.proofs.HexText.{more_text, reads_back, hex_parts, left_of, next_byte, left_after}
+use Rattle.lines.proofs.HexText.{more_text, reads_back, hex_parts, left_of, left_after}
 use Rattle.lines.proofs.UnitSteps.{rest_after}
 use Rattle.lines.proofs.text.write_line.Goals as goal
-
-pub returns-in_default : goal.returns-in_default
-returns-in_default c =
-    let bs = c.args.bytes.now in
-    let none : bs ≡ [] = nil_from_length bs (omega (arith, ltb-true)) in
-    let is : string_bytes c.clear.new.self ≡ hex_text bs = c.clear.ensures.bytes ∙ sym (ap hex_text none) in
-    record { value = is; back = ap line_of is ∙ reads_back bs (All-from_get_or _ bs 0 (λ i _. omega (arith, c.type_inv.bytes i))); first = tt }
 
 pub returns-in_err-push_byte : goal.returns-in_err-push_byte
 returns-in_err-push_byte c =
@@ -28,11 +21,6 @@ returns-in_err-push_byte c =
     let is : text ++ (told.0 ++ more) ≡ hex_text bs =
     sym (append_assoc text told.0 more) ∙ ap (λ t. t ++ more) (told.1 ∙ ap (λ t. t ++ first) c.clear.ensures.bytes) ∙ hex_parts bs (omega (arith, ltb-false)) in
     rw p.1 record { value = tt; back = tt; first = (told.0 ++ more, is) }
-
-pub loop-byte-init : goal.loop-byte-init
-loop-byte-init c =
-    let first = byte_text (get_or c.args.bytes.now 0 0) in
-    c.in_ok-push_byte.ensures.value ∙ ap (λ t. t ++ first) c.clear.ensures.bytes ∙ sym (append-nil first)
 
 pub returns-in_err-push : goal.returns-in_err-push
 returns-in_err-push c =
@@ -59,18 +47,6 @@ returns-in_err-push_byte-2 c =
     let left = left_after first tail (hex_text bs) (hex_parts bs (omega (arith, ltb-false))) i c.loop-byte-test.true
     (string_bytes c.push_byte-in-loop-byte.new.text) told.0 (told.1 ∙ ap (λ t. t ++ byte_text (get_or tail i 0)) blank) in
     rw p.1 record { value = tt; back = tt; first = (told.0 ++ _, left) }
-
-pub loop-byte-preserved : goal.loop-byte-preserved
-unfolding encode
-loop-byte-preserved c =
-    let bs = c.args.bytes.now in
-    let i = c.loop-byte.byte-index in
-    let first = byte_text (get_or bs 0 0) in
-    let tail = rest_after 1 bs in
-    let blank : string_bytes c.push.new.self ≡ (first ++ more_text (take i tail)) ++ 32 ∷ [] =
-    c.in_ok-push.ensures.bytes ∙ ap (λ t. t ++ 32 ∷ []) c.loop-byte.invariant in
-    c.in_ok-push_byte-2.ensures.value ∙ ap (λ t. t ++ byte_text (get_or tail i 0)) blank
-    ∙ next_byte first tail (hex_text bs) (hex_parts bs (omega (arith, ltb-false))) i c.loop-byte-test.true
 
 pub returns : goal.returns
 returns c =
