@@ -9,7 +9,7 @@ use crate::order::KIND;
 use frames::Settings;
 use lines::Fault;
 
-// What one post is told, besides the frames that come to it.
+// What one post is told, besides the frames that come to it: half of the orders to a ring. By `Order` it would have cases that can't come.
 #[derive(Clone, Copy, PartialEq, Eq, Debug)]
 pub enum PostOrder {
     Tick,
@@ -38,7 +38,7 @@ pub fn read_place(bytes: &[u8], settings: &Settings) -> Result<u8, Fault>
     }
 }
 
-// What is to be done, by its number, which is that of the same order to a ring; to go by `Order` would be no shorter.
+// What is to be done, by its number, which is that of the same order to a ring.
 fn read_post_what(bytes: &[u8]) -> Result<PostOrder, Fault>
     ensures fault { result_err result ≡ reading_fault (post_what_field ∷ []) bytes.now }
     ensures value { IfOk result (λ o. post_what o ∷ [] ≡ bytes.now) }

@@ -12,7 +12,7 @@ pub enum Member {
     End(usize),
 }
 
-// The member at a place in the ring.
+// The member at a place in the ring. There is no way back but `3 * i` and the like, where i is known to be small enough.
 impl From<usize> for Member {
     ghost from_gives = { λ place m. place_of m ≡ place };
 

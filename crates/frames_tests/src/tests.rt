@@ -191,10 +191,20 @@ fn lines_that_hold_nothing_are_passed_over(rt: HostRuntime) -> Result<(), Fail> 
     assert_eq!(rt; units.next_unit()?, Some(Ending::Whole));
     assert_eq!(rt; units.unit(Ending::Whole).bytes, b"\x01\x02".as_slice());
     assert_eq!(rt; units.lines, 3);
-    assert_eq!(rt; units.required()?, Ending::Damaged);
+    assert_eq!(rt; units.next_unit()?, Some(Ending::Damaged));
     assert_eq!(rt; units.unit(Ending::Damaged).bytes, b"\x03".as_slice());
     assert_eq!(rt; units.lines, 5);
     assert_eq!(rt; units.next_unit()?, None);
+    Ok(())
+}
+
+#[test]
+fn a_unit_that_has_to_come_is_malformed_where_none_comes(rt: HostRuntime) -> Result<(), Fail> {
+    let text = b"\n01\n".as_slice();
+    let mut units = Units::new(rt.alloc(), BufReader::new(rt.alloc(), text)?);
+    assert_eq!(rt; units.required()?, Ending::Whole);
+    assert_eq!(rt; units.unit(Ending::Whole).bytes, b"\x01".as_slice());
+    assert_eq!(rt; units.lines, 2);
     assert!(rt; matches!(units.required(), Err(Stop::Refused(Malformed))));
     Ok(())
 }

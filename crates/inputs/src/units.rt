@@ -36,7 +36,8 @@ impl<R: BufRead> Units<R> {
         }
     }
 
-    // The unit that was read last, on a line that ended so.
+    // The unit that was read last, on a line that ended so. The ending comes from the caller, since a unit given out by `next_unit` would keep
+    // the input lent.
     pub fn unit(&self, ending: Ending) -> Unit<'_>
         ensures { line_in result ≡ record { bytes = self.now.bytes.items; ending = ending } }
     {

@@ -45,7 +45,8 @@ impl From<u8> for Symbol {
 }
 
 impl Ending {
-    // The answer of a reader of the bytes on a line that ended so, with the damage as a fault of its own.
+    // The answer of a reader of the bytes on a line that ended so, with the damage as a fault of its own. The answer comes in and not the
+    // reader, so that contracts say which bytes it was given.
     pub fn settle<T: Drop>(self, answer: Result<T, Fault>) -> Result<T, Fault>
         ensures value { result ≡ settled Malformed self answer }
         ensures fault { (bs : List ℕ) (fs : List Field) → Laid fs → result_err answer ≡ first_fault (unit_checks bs fs) → result_err result ≡ first_fault (line_checks record { bytes = bs; ending = self } fs) }

@@ -7,7 +7,7 @@ use crate::Ending;
 
 #[derive(Clone, Copy, Debug)]
 pub struct Unit<'a> {
-    // up to the line's end, or to a stray character
+    // up to the line's end, or to a stray character: an earlier fault than the damage may be in them
     pub bytes: &'a [u8],
     pub ending: Ending,
 }

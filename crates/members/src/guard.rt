@@ -18,7 +18,7 @@ pub(crate) fn one_up(own: u16, k: u16) -> u16
     }
 }
 
-// The guard of member `i`, by its own number and that of the one before.
+// The guard of member `i`, by its own number and that of the one before. The two are given in the order in which they stand in the ring.
 pub fn guard_holds(i: usize, before: u16, own: u16) -> bool
     ensures { result ≡ may_by i before own }
 {

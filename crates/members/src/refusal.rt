@@ -1,4 +1,4 @@
-// Why a question about a ring is refused, and the tests of the arguments.
+// Why a question about a ring is refused.
 
 #[derive(Clone, Copy, PartialEq, Eq, Debug)]
 pub enum Refusal {

@@ -13,7 +13,7 @@ use std::process::ExitCode;
 use telling::tell;
 use tidings::Tidings;
 
-// Each line is printed by itself, so tidings have no text of their own.
+// Tidings have no text of their own: it would be of many lines, and `tell` is what is proved of them.
 fn print(rt: &HostRuntime, tidings: &Tidings) -> Result<(), Stop> {
     match tidings {
         Tidings::One(holder, waits) => {

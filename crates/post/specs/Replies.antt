@@ -8,6 +8,7 @@ use Rattle.lines.specs.Hex.{Line, line_checks}
 use Rattle.commands.specs.PostUnit.{post_order_fields}
 use Rattle.lines.specs.Units.{Field}
 use Rattle.posts.specs.declared.post.Post.{Post}
+use Rattle.posts.specs.CountsText.{counts_of}
 use Rattle.posts.specs.Steps.{tick_step, after_frame, quiet, with_button}
 use Rattle.post.specs.declared.reply.Reply.{Reply}
 use Rattle.post.specs.declared.reply.Reply.TheVariants.{Acted, Shown}
@@ -24,7 +25,7 @@ abbrev pub obeyed : Settings → Post → ℕ → Post × Reply
 obeyed o p what =
     cond (what == 1) ((tick_step o p).0, Acted (tick_step o p).1)
     (cond (what == 6) (with_button true p, Acted quiet)
-    (cond (what == 7) (with_button false p, Acted quiet) (p, Shown)))
+    (cond (what == 7) (with_button false p, Acted quiet) (p, Shown (counts_of p))))
 
 -- a line that has a fault is refused for it, and nothing is done
 abbrev pub unless_refused : Option Fault → Post × Reply → Result (Post × Reply) Fault

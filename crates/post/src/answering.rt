@@ -29,7 +29,7 @@ fn obey_order(post: Post, settings: &Settings, order: PostOrder) -> (Post, Reply
         PostOrder::Tick => Told::Tick,
         PostOrder::ButtonDown => Told::ButtonDown,
         PostOrder::ButtonUp => Told::ButtonUp,
-        PostOrder::Show => return (post, Reply::Shown),
+        PostOrder::Show => return (post, Reply::Shown(post.counts())),
     };
     let (post, act) = post.step(told, settings);
     (post, Reply::Acted(act))

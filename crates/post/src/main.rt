@@ -15,13 +15,12 @@ use reply::Reply;
 use std::io::BufReader;
 use std::process::ExitCode;
 
-// Each line is printed by itself, so an act has no text of its own.
+// An act has no text of its own, since that of its frame needs memory.
 fn print_act(rt: &HostRuntime, act: Act) -> Result<(), Stop> {
     if act.speaks {
         println!(rt; "speaks")?;
     }
-    let sends = act.sends;
-    if let Some(frame) = sends {
+    if let Some(frame) = act.sends {
         let mut text = String::new(rt.alloc());
         write_line(&frame, &mut text)?;
         println!(rt; "{text}")?;
@@ -29,13 +28,10 @@ fn print_act(rt: &HostRuntime, act: Act) -> Result<(), Stop> {
     Ok(())
 }
 
-fn print(rt: &HostRuntime, post: Post, reply: Reply) -> Result<(), Stop> {
+fn print(rt: &HostRuntime, reply: Reply) -> Result<(), Stop> {
     match reply {
         Reply::Acted(act) => print_act(rt, act)?,
-        Reply::Shown => {
-            let counts = post.counts();
-            println!(rt; "{counts}")?;
-        }
+        Reply::Shown(counts) => println!(rt; "{counts}")?,
     }
     Ok(())
 }
@@ -59,7 +55,7 @@ fn run(rt: &HostRuntime) -> Result<(), Stop> {
         match reply(post, &settings, units.unit(ending)) {
             Ok((next, answer)) => {
                 post = next;
-                print(rt, post, answer)?;
+                print(rt, answer)?;
             }
             Err(fault) => println!(rt; "{fault}")?,
         }

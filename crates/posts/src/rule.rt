@@ -45,6 +45,7 @@ impl Memory {
         }
     }
 
+    // The parts of a tick, each with its test, as the definitions that they are proved against.
     fn speak_if(self, speaks: bool) -> Memory
         ensures { result ≡ speak_if speaks self }
     {

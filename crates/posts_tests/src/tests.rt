@@ -136,7 +136,13 @@ fn ticks_from_any_content(rt: HostRuntime) -> Result<(), Fail> {
 fn a_turn_step_by_step(rt: HostRuntime) -> Result<(), Fail> {
     let settings = read_settings(&TWO_POSTS)?;
     let mut post = Post::new(1, remembered([0; 4], 0, 0), &settings)?;
-    let quiet = Act::default();
+    let quiet = Act {
+        speaks: false,
+        moves: false,
+        sends: None,
+        refuses: None,
+    };
+    assert_eq!(rt; Act::default(), quiet);
     let speaks = Act {
         speaks: true,
         ..quiet

@@ -11,7 +11,7 @@ use Rattle.ring.specs.declared.report.Said.{Said}
 use Rattle.ring.specs.declared.stage.Stage.{Stage as LentStage}
 use Rattle.ring.specs.declared.tally.Tally.{Tally}
 use Rattle.ring.specs.Bound.{HeldTo}
-use Rattle.ring.specs.Lent.{Becomes, InStep, SameSlices, stage_in}
+use Rattle.ring.specs.Lent.{Becomes, KeptInStep, SameSlices, stage_in}
 use Rattle.ring.specs.Machine.{state_in}
 use Rattle.ring.specs.Plays.{Stage, begins, line_stage, line_says, played, sayings}
 use Rattle.ring.specs.Promise.{ring_of_settings}
@@ -22,7 +22,7 @@ use Rattle.ring.proofs.PlayLaws.{played_more, sayings_more}
 -- from the stage x, with these settings and this machine, so many lines led to the stage y
 pub record Midplay (o : Settings) (script rest : List ℕ) (x y : LentStage) (line : ℕ) (said : List Said) : Type 0 where
   pub slices : SameSlices x y
-  pub in_step : InStep y
+  pub in_step : KeptInStep y
   pub set : y.settings.now ≡ o
   pub done : List (List ℕ)
   pub split : done ++ lines_of rest ≡ lines_of script
@@ -33,7 +33,7 @@ pub record Midplay (o : Settings) (script rest : List ℕ) (x y : LentStage) (li
   pub few_moves : y.tally.moves ≤ 2 * line
 
 -- nothing was played yet
-pub midplay_none : (o : Settings) (script : List ℕ) (x : LentStage) (said : List Said) → x.settings.now ≡ o → InStep x → x.tally ≡ anew (ring_of_settings o) (state_in o (stage_in x).machine) → said ≡ [] →
+pub midplay_none : (o : Settings) (script : List ℕ) (x : LentStage) (said : List Said) → x.settings.now ≡ o → KeptInStep x → x.tally ≡ anew (ring_of_settings o) (state_in o (stage_in x).machine) → said ≡ [] →
     Midplay o script script x x 0 said
 unfolding played sayings anew
 midplay_none o script x said e h t q = record {

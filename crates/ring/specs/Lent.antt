@@ -10,7 +10,7 @@ abbrev pub stage_in : LentStage → Stage
 stage_in x = record { machine = record { posts = x.posts.now; lines = x.lines.now }; tally = x.tally }
 
 -- the tally is held to the bound, and the numbers are the machine's
-pub record InStep (x : LentStage) : Type 0 where
+pub record KeptInStep (x : LentStage) : Type 0 where
   pub sound : Sound x.settings.now (stage_in x).machine x.tally
   pub same : x.numbers.now ≡ state_in x.settings.now (stage_in x).machine
 
@@ -25,4 +25,4 @@ pub record SameSlices (x y : LentStage) : Type 0 where
 pub record Becomes (x y : LentStage) (z : Stage) : Type 0 where
   pub slices : SameSlices x y
   pub stage : stage_in y ≡ z
-  pub in_step : InStep y
+  pub in_step : KeptInStep y

@@ -1,5 +1,5 @@
-// Counting the moves of members, each at the cost of two members' guards. K plays no part in it. What is said here of numbers and their count
-// is asked in each contract, since a step counts between two of its writes. Assumes nothing.
+// Counting the moves of members, each at the cost of two members' guards. K plays no part in it. `Counted` is asked
+// by each contract, and is no invariant of numbers and tally together, since `shift` writes a number before it counts anew. Assumes nothing.
 ghost use Rattle.std.specs.Prelude.{◌≡◌, ℕ, ◌+◌, ◌^◌, ◌<◌, ◌≤◌, length, if◌then◌else◌, slice_set};
 ghost use Rattle.members.specs.Answers.{ring_of};
 ghost use Rattle.members.specs.Ring.{how_many, may};

@@ -1,6 +1,6 @@
 // An order that is obeyed. Assumes nothing.
 ghost use Rattle.std.specs.Prelude.{◌+◌, ◌^◌, ◌<◌};
-ghost use Rattle.ring.specs.Lent.{Becomes, InStep, stage_in};
+ghost use Rattle.ring.specs.Lent.{Becomes, KeptInStep, stage_in};
 ghost use Rattle.ring.specs.Plays.{obeyed};
 
 use crate::stage::Stage;
@@ -11,7 +11,7 @@ impl Stage<'_> {
     // Obeys an order to post `i`. Orders are a closed list, so a match on all of them is plainest.
     #[tactic(auto, unfolding(crate::specs::Plays::obeyed))]
     pub(crate) fn obey(&mut self, i: usize, order: Order)
-        requires in_step { InStep self.old }
+        requires in_step { KeptInStep self.old }
         requires there { i < self.old.settings.now.posts }
         requires room { self.old.tally.moves + 2 < 2 ^ 64 }
         ensures { Becomes self.old self.new (obeyed self.old.settings.now i order (stage_in self.old)) }

@@ -2,7 +2,7 @@
 ghost use Rattle.std.specs.Prelude.{◌≡◌, ◌+◌, ◌^◌, ◌<◌, ◌≤◌, is_ok, if◌then◌else◌, MatchOption, OnOk};
 ghost use Rattle.lines.specs.UnitLines.{line_in};
 ghost use Rattle.ring.specs.Examples.{Examples};
-ghost use Rattle.ring.specs.Lent.{Becomes, InStep, stage_in};
+ghost use Rattle.ring.specs.Lent.{Becomes, KeptInStep, stage_in};
 ghost use Rattle.ring.specs.Plays.{says_of_line, stage_of_line};
 ghost use Rattle.ring.specs.Promise.{Heals, Progress, Refines, SpeaksAlone};
 ghost use Rattle.ring.specs.Reports.{Adds, Outcome};
@@ -24,7 +24,7 @@ impl Stage<'_> {
         unit: Unit<'_>,
         line: u64,
     ) -> Result<(), AllocError>
-        requires in_step { InStep self.old }
+        requires in_step { KeptInStep self.old }
         requires room { self.old.tally.moves + 2 < 2 ^ 64 }
         ensures stage { Becomes self.old self.new (if is_ok result then stage_of_line self.old.settings.now (line_in unit.entry) (stage_in self.old) else stage_in self.old) }
         ensures says { OnOk result (Adds said.old.items said.new.items (says_of_line self.old.settings.now line (line_in unit.entry) (stage_in self.old).machine)) }
@@ -95,7 +95,7 @@ pub fn play(
     let mut bytes = Vec::new(heap);
     let mut line = 0;
     let mut rest = script;
-    // from its front: a line of three bytes is taken off before its end is looked for
+    // from its front: a line of three bytes, as nearly all are, goes into an array before its end is looked for
     while !rest.is_empty() {
         line += 1;
         let three = read_three(rest);

@@ -1,4 +1,4 @@
-// What is said of a script that was played.
+// What is said of a script that was played. Assumes nothing.
 use crate::Tally;
 use frames::Fault;
 use posts::Counts;

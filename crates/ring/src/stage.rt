@@ -1,7 +1,7 @@
 // All posts and lines of a ring over lent slices, and what happens to them, with the numbers and the tally kept in step. Assumes nothing.
 ghost use Rattle.std.specs.Prelude.{◌≡◌, ◌+◌, ◌^◌, ◌<◌, true, false, if◌then◌else◌};
 ghost use Rattle.ring.specs.Disturbances.{frame_becomes, memory_becomes};
-ghost use Rattle.ring.specs.Lent.{Becomes, InStep, stage_in};
+ghost use Rattle.ring.specs.Lent.{Becomes, KeptInStep, stage_in};
 ghost use Rattle.ring.specs.Machine.{hear, lose, press, release, tick};
 ghost use Rattle.ring.specs.Numbers.{preceding};
 ghost use Rattle.ring.specs.Plays.{begins, happened};
@@ -10,8 +10,9 @@ use crate::{Line, Tally};
 use frames::Settings;
 use posts::{Memory, Post, in_range};
 
-// What each step needs and keeps is `InStep`. It is no ghost field, since it would have to hold after each single write to a lent slice, and no invariant
-// behind a model, since `play` would then not know what the slices hold in the end.
+// What each step needs and keeps is `KeptInStep`. It is no ghost field, since it would have to hold after each single write to a lent slice, and no invariant
+// behind a model, since `play` would then not know what the slices hold in the end. That a post is `there`, and that there is `room` for more
+// moves to be counted, is asked of the arguments and the script, not of the stage. Posts and lines are the caller's slices, so they stay two.
 #[derive(Drop)]
 pub(crate) struct Stage<'a> {
     pub settings: &'a Settings,
@@ -26,7 +27,7 @@ pub(crate) struct Stage<'a> {
 impl Stage<'_> {
     // The post whose line leads to post `i`.
     fn sender(&self, i: usize) -> usize
-        requires in_step { InStep self.now }
+        requires in_step { KeptInStep self.now }
         requires there { i < self.now.settings.now.posts }
         ensures value { result ≡ preceding self.now.settings.now.posts i }
         ensures below { result < self.now.settings.now.posts }
@@ -36,7 +37,7 @@ impl Stage<'_> {
 
     // A tick of post `i`.
     pub(crate) fn tick(&mut self, i: usize)
-        requires in_step { InStep self.old }
+        requires in_step { KeptInStep self.old }
         requires there { i < self.old.settings.now.posts }
         requires room { self.old.tally.moves + 2 < 2 ^ 64 }
         ensures { Becomes self.old self.new (happened self.old.settings.now (tick i) (stage_in self.old)) }
@@ -53,7 +54,7 @@ impl Stage<'_> {
 
     // Post `i` hears the line before it.
     pub(crate) fn hear(&mut self, i: usize)
-        requires in_step { InStep self.old }
+        requires in_step { KeptInStep self.old }
         requires there { i < self.old.settings.now.posts }
         requires room { self.old.tally.moves + 1 < 2 ^ 64 }
         ensures { Becomes self.old self.new (happened self.old.settings.now (hear i) (stage_in self.old)) }
@@ -73,7 +74,7 @@ impl Stage<'_> {
 
     // The frame on the line from post `i` is lost. No number changes.
     pub(crate) fn lose(&mut self, i: usize)
-        requires in_step { InStep self.old }
+        requires in_step { KeptInStep self.old }
         requires there { i < self.old.settings.now.posts }
         ensures { Becomes self.old self.new (happened self.old.settings.now (lose i) (stage_in self.old)) }
     {
@@ -82,7 +83,7 @@ impl Stage<'_> {
 
     // The button of post `i` goes down or up. No number changes.
     pub(crate) fn press(&mut self, i: usize, down: bool)
-        requires in_step { InStep self.old }
+        requires in_step { KeptInStep self.old }
         requires there { i < self.old.settings.now.posts }
         ensures { Becomes self.old self.new (happened self.old.settings.now (if down then press i else release i) (stage_in self.old)) }
     {
@@ -91,7 +92,7 @@ impl Stage<'_> {
 
     // The memory of post `i` becomes another: its number and the end of the line to it may change.
     pub(crate) fn disturb_memory(&mut self, i: usize, memory: Memory)
-        requires in_step { InStep self.old }
+        requires in_step { KeptInStep self.old }
         requires there { i < self.old.settings.now.posts }
         ensures { Becomes self.old self.new (begins self.old.settings.now (memory_becomes i memory (stage_in self.old).machine)) }
     {
@@ -105,7 +106,7 @@ impl Stage<'_> {
 
     // The frame on the line from post `i` becomes another, which isn't lost: its number may change.
     pub(crate) fn disturb_frame(&mut self, i: usize, frame: [u8; 6])
-        requires in_step { InStep self.old }
+        requires in_step { KeptInStep self.old }
         requires there { i < self.old.settings.now.posts }
         ensures { Becomes self.old self.new (begins self.old.settings.now (frame_becomes i frame (stage_in self.old).machine)) }
     {

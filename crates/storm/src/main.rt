@@ -7,9 +7,10 @@ mod printing;
 use frames::{Fault, read_settings};
 use help::HELP;
 use inputs::{Stop, Units, answer_help, end};
+use members::most_moves;
 use printing::Printer;
 use ring::{PlayError, first_lines, first_posts, play};
-use std::io::{BufReader, Read};
+use std::io::{BufReader, BufWriter, Read};
 use std::process::ExitCode;
 
 fn run(rt: &HostRuntime) -> Result<(), Stop> {
@@ -25,7 +26,8 @@ fn run(rt: &HostRuntime) -> Result<(), Stop> {
     let mut posts = first_posts(heap, &settings)?;
     let mut lines = first_lines(heap, &settings)?;
     let mut numbers = vec![in heap; 0u16; settings.members()]?;
-    match play(
+    // both error types are of other crates, so no `From` leads from the one to the other
+    let report = match play(
         heap,
         &settings,
         script.as_slice(),
@@ -33,14 +35,16 @@ fn run(rt: &HostRuntime) -> Result<(), Stop> {
         &mut posts,
         &mut lines,
     ) {
-        Ok(report) => Printer {
-            settings,
-            lines_before: units.lines,
-        }
-        .print(rt, &report),
-        Err(PlayError::Memory) => Err(Stop::Memory),
-        Err(PlayError::Unfit) => Err(Stop::Refused(Fault::OutOfRange)),
-    }
+        Ok(report) => report,
+        Err(PlayError::Memory) => return Err(Stop::Memory),
+        Err(PlayError::Unfit) => return Err(Stop::Refused(Fault::OutOfRange)),
+    };
+    let mut printer = Printer {
+        out: BufWriter::new(heap, rt.stdout())?,
+        lines_before: units.lines,
+        bound: most_moves(3 * u16::from(settings.posts)),
+    };
+    printer.print(&report)
 }
 
 fn main(rt: HostRuntime) -> ExitCode {

@@ -15,9 +15,6 @@ balanced s j v h a b g l p q k =
     let f = q k in
     (omega (arith, shifted (ring_of k s) s j v g.big l, g.counted k, p k), omega (arith, few (ring_of k s) s (length s), g.counted k), omega (arith, near_few (ring_of k t) t j))
 
-pub held_near-requires : goal.held_near-requires
-held_near-requires c = rw (length-set c.args.numbers.now c.args.j c.args.value) c.requires.there
-
 pub overflow_add-result : goal.overflow_add-result
 overflow_add-result c =
     let b = balanced c.args.numbers.now c.args.j c.args.value c.args.holders _ _ c.requires.counted c.requires.there c.held_near-before.ensures c.held_near.ensures 0 in

@@ -5,12 +5,6 @@ use Rattle.ring.specs.Machine.{Machine}
 use Rattle.ring.proofs.StartLaws.{fitting, fitting_whole, numbers_taken, begun_anew}
 use Rattle.ring.proofs.start.start.Goals as goal
 
-pub write_numbers-requires : goal.write_numbers-requires
-write_numbers-requires c =
-    let o = c.args.settings.now in
-    let f = fitting o c.args.posts.now c.args.lines.now c.args.numbers.now c.from-count.result c.from-count.ensures c.if-posts-count.false c.if-lines-count.false c.if-numbers-count.false c.if-not-all_seated.ensures in
-    record { whole = fitting_whole o c.args.posts.now c.args.lines.now c.args.numbers.now f; count_of_numbers = f.count_of_numbers }
-
 pub unreachable-requires : goal.unreachable-requires
 unreachable-requires c =
     let o = c.args.settings.now in

@@ -1,17 +1,9 @@
 -- One number more stands where it should.
-use Rattle.std.proofs.Common.{◌≡◌, ◌*◌, ◌≢◌, length, sym, ◌∙◌, arith, below_more}
-use Rattle.std.proofs.lemmas.List.{ext_get_or, get_or-set_same, get_or-set_other}
+use Rattle.std.proofs.Common.{◌≡◌, ◌*◌, length, sym, ◌∙◌, arith}
+use Rattle.std.proofs.lemmas.List.{ext_get_or}
 use Rattle.ring.specs.Machine.{Machine, numbers_of, state_in}
 use Rattle.ring.proofs.Places.{state_length, state_at}
 use Rattle.ring.proofs.start.write_numbers.Goals as goal
-
-pub loop-j-preserved : goal.loop-j-preserved
-loop-j-preserved c =
-    let s = c.loop-j.numbers in
-    let j = c.loop-j.j in
-    below_more _ _
-    (λ k h. let ne : k ≢ j = omega arith in get_or-set_other s j k c.member_number.result 0 ne ∙ c.loop-j.invariant k h)
-    (get_or-set_same s j c.member_number.result 0 (omega arith) ∙ c.member_number.ensures)
 
 pub returns : goal.returns
 returns c =

@@ -2,7 +2,7 @@
 use Rattle.std.proofs.Common.{◌≡◌, ℕ, ◌<◌, Bool, true, false, cond, sym, refl, ap, ◌∙◌}
 use Rattle.ring.specs.declared.stage.Stage.{Stage as LentStage}
 use Rattle.ring.specs.Events.{tallied}
-use Rattle.ring.specs.Lent.{Becomes, InStep, SameSlices, stage_in}
+use Rattle.ring.specs.Lent.{Becomes, KeptInStep, SameSlices, stage_in}
 use Rattle.ring.specs.Machine.{button_of, press, release, step}
 use Rattle.ring.specs.Numbers.{state_of}
 use Rattle.ring.specs.Plays.{happened}
@@ -10,7 +10,7 @@ use Rattle.ring.proofs.Machines.{button_numbers}
 use Rattle.ring.proofs.StageLaws.{comes}
 use Rattle.ring.proofs.stage.Stage.press.Goals as goal
 
-pressed : (x y : LentStage) (i : ℕ) (b : Bool) → InStep x → i < x.settings.now.posts → SameSlices x y →
+pressed : (x y : LentStage) (i : ℕ) (b : Bool) → KeptInStep x → i < x.settings.now.posts → SameSlices x y →
     y.posts.now ≡ (button_of b i (stage_in x).machine).posts → y.lines.now ≡ x.lines.now → y.tally ≡ x.tally → y.numbers.now ≡ x.numbers.now →
     Becomes x y (happened x.settings.now (cond b (press i) (release i)) (stage_in x))
 unfolding step tallied
