@@ -6,8 +6,7 @@ ghost use Rattle.lines.specs.Checks.{first_fault, IsFirstFault};
 ghost use Rattle.frames.specs.FrameUnit.{frame_bytes, frame_checks, sender_of, ReadsAllSent};
 
 use crate::Settings;
-use crate::word::read_word;
-use lines::Fault;
+use lines::{Fault, read_word};
 use sums::checksum;
 
 // The first byte of a frame.

@@ -6,7 +6,6 @@ mod frame;
 mod member;
 mod numbers;
 mod settings;
-mod word;
 
 pub use frame::{read_frame, write_frame};
 pub use lines::{Ending, Fault, ReadError, read_line, write_line};

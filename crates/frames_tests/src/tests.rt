@@ -2,7 +2,7 @@
 use frames::Fault::{Malformed, NumberTooLarge, OutOfRange, WrongSender, WrongSum};
 use frames::*;
 use inputs::{Stop, Units};
-use lines::{Unit, first_line, read_first_line, read_three};
+use lines::{Unit, first_line, read_first_line, read_three, read_word};
 use std::alloc::AllocError;
 use std::io::BufReader;
 use std::test::Fail;
@@ -234,6 +234,19 @@ fn three_bytes_are_read_where_nothing_else_is_on_the_line(rt: HostRuntime) {
     for (text, expected) in THREES {
         assert_eq!(rt; read_three(text), expected);
     }
+}
+
+#[test]
+fn a_number_is_two_bytes_the_high_one_first(rt: HostRuntime) -> Result<(), Fail> {
+    let (number, rest) = read_word(&[1, 2, 7, 8, 9])?;
+    assert_eq!(rt; number, 258);
+    assert_eq!(rt; rest, [7, 8, 9].as_slice());
+    let (number, rest) = read_word(&[0xff, 0xfe])?;
+    assert_eq!(rt; number, 65_534);
+    assert!(rt; rest.is_empty());
+    assert_eq!(rt; read_word(&[1]).err(), Some(Malformed));
+    assert_eq!(rt; read_word(&[]).err(), Some(Malformed));
+    Ok(())
 }
 
 // The fault for which a list of numbers on a line that ended so is refused, if it is.

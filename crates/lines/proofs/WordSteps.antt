@@ -2,7 +2,7 @@
 use Rattle.std.proofs.Common.{◌≡◌, ℕ, zero, suc, ◌+◌, ◌-◌, ◌*◌, ◌/◌, ◌%◌, ◌<◌, ◌≤◌, leb, List, [], ◌∷◌, ◌++◌, length, get_or, take, drop, set, replicate, Some, None, sym, refl, ap, ◌∙◌, subst, inl, inr, append_assoc, arith}
 use Rattle.std.specs.List.{AllByRecursion}
 use Rattle.std.proofs.ByRecursion.{All-push, All-get_or}
-use Rattle.std.proofs.lemmas.List.{take_more_set, take_rest, take_all, drop-drop, drop-set-lt, get_or-drop, length-set, flat_map_more, nil_from_length, append-nil, drop-replicate, get_or-replicate, get_or_past, length-replicate, get_or_append_left, get_or-append_right}
+use Rattle.std.proofs.lemmas.List.{take_more_set, take_all, drop-drop, drop-set-lt, get_or-drop, length-set, flat_map_more, nil_from_length, append-nil, drop-replicate, get_or-replicate, get_or_past, length-replicate, get_or_append_left, get_or-append_right}
 use Rattle.std.proofs.lemmas.Bool.{le-leb, lt-leb, cases_lt}
 use Rattle.lines.specs.declared.fault.Fault.{Fault}
 use Rattle.lines.specs.declared.fault.Fault.TheVariants.{Malformed}
@@ -48,8 +48,8 @@ module _ {bytes old words rest : List ℕ} {i : ℕ} {f : Fault} {largest : ℕ}
         sym (word_fails f (λ x. leb x largest) (replicate (length words - (i + 1)) (word_up_to f largest)) rest v there is (lt-leb v largest h))
         ∙ ap (λ fs. reading_fault fs rest) (sym (replicate_minus (length words) i (word_up_to f largest) more)) ∙ at.same_fault
 
-    one_more : v ≤ largest → Progress bytes old (set words i v) (drop 2 rest) (i + 1) f largest
-    one_more h =
+    pub next : v ≤ largest → Progress bytes old (set words i v) (drop 2 rest) (i + 1) f largest
+    next h =
         let n : length (set words i v) ≡ length words = length-set words i v in
         record {
           so_far =
@@ -67,9 +67,6 @@ module _ {bytes old words rest : List ℕ} {i : ℕ} {f : Fault} {largest : ℕ}
               ∙ ap (λ fs. reading_fault fs rest) (sym (replicate_minus (length words) i (word_up_to f largest) more)) ∙ at.same_fault);
           octets = λ j. rw (get_or-drop 2 rest j 0) (at.octets (2 + j));
         }
-
-    pub next : v ≤ largest → Progress bytes old (set words i v) (take (length rest - 2) (drop 2 rest)) (i + 1) f largest
-    next h = rw (take_rest rest 2) (one_more h)
 
 module _ {bytes old words rest : List ℕ} {i : ℕ} {f : Fault} {largest : ℕ} (at : Progress bytes old words rest i f largest) (all : length words ≤ i) where
   ended : reading_fault [] rest ≡ reading_fault (replicate (length words) (word_up_to f largest)) bytes

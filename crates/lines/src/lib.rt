@@ -7,6 +7,7 @@ mod read_error;
 mod script;
 mod text;
 mod unit;
+mod word;
 mod words;
 
 pub use fault::Fault;
@@ -15,4 +16,5 @@ pub use read_error::ReadError;
 pub use script::first_line;
 pub use text::write_line;
 pub use unit::Unit;
+pub use word::read_word;
 pub use words::read_words;

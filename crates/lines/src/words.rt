@@ -5,7 +5,7 @@ ghost use Rattle.std.specs.List.{AllByRecursion};
 ghost use Rattle.lines.specs.Units.{reading_fault};
 ghost use Rattle.lines.specs.Words.{word_up_to, words_bytes};
 
-use crate::Fault;
+use crate::{Fault, read_word};
 
 // Reads as many numbers as `words` has places for, each at most `largest`. At a fault the numbers before it are read.
 pub fn read_words(bytes: &[u8], words: &mut [u16], largest: u16, fault: Fault) -> Result<(), Fault>
@@ -16,10 +16,7 @@ pub fn read_words(bytes: &[u8], words: &mut [u16], largest: u16, fault: Fault) -
 {
     let mut rest = bytes;
     for word in words.iter_mut() {
-        let [high, low, more @ ..] = rest else {
-            return Err(Fault::Malformed);
-        };
-        let value = u16::from_be_bytes([*high, *low]);
+        let (value, more) = read_word(rest)?;
         if value > largest {
             return Err(fault);
         }

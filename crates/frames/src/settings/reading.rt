@@ -7,8 +7,7 @@ ghost use Rattle.lines.specs.Words.{words_bytes};
 ghost use Rattle.frames.specs.SettingsUnit.{turn_fields, settings_checks, settings_bytes, turn_of, AcceptsAll};
 
 use crate::Settings;
-use crate::word::read_word;
-use lines::{Fault, read_words};
+use lines::{Fault, read_word, read_words};
 
 // The first byte of settings.
 const KIND: u8 = 2;
