@@ -1,5 +1,5 @@
 -- The text of bytes reads back as those bytes. Assumes nothing.
-use Rattle.std.proofs.Common.{◌≡◌, ℕ, ◌+◌, ◌*◌, ◌/◌, ◌%◌, ◌<◌, ◌≤◌, cond, List, [], ◌∷◌, ◌++◌, length, get_or, take, drop, is_ok, IfOk, IfErr, Ok, Err, Result, sym, refl, ap, ◌∙◌, subst, arith}
+use Rattle.std.proofs.Common.{◌≡◌, ℕ, ◌+◌, ◌*◌, ◌/◌, ◌%◌, ◌<◌, ◌≤◌, List, [], ◌∷◌, ◌++◌, length, get_or, take, drop, sym, refl, ap, ◌∙◌, subst, arith}
 use Rattle.std.specs.List.{flat_map, AllByRecursion}
 use Rattle.std.specs.Char.{digit_value, digit_char}
 use Rattle.std.proofs.ByRecursion.{All-append}
@@ -21,9 +21,6 @@ digit_low : (d : ℕ) → d < 16 → (48 ≤ digit_char d) × (digit_char d < 12
 digit_low d h = (grind (arith, nat_tests), grind (arith, nat_tests))
 
 -- a digit's character takes one byte
-pub digit_encoded : (encoded : List ℕ) (c d : ℕ) → c ≡ digit_char d → d < 16 → (c < 128 → encoded ≡ c ∷ []) → encoded ≡ digit_char d ∷ []
-digit_encoded encoded c d e h ascii = ascii (subst (λ x. x < 128) (sym e) (digit_low d h).1) ∙ ap (λ x. x ∷ []) e
-
 digit_symbol : (d : ℕ) → d < 16 → symbol_of (digit_char d) ≡ Digit d
 digit_symbol d h =
     let v = digit_value-digit_char d h in
@@ -74,11 +71,6 @@ reads_back bs h =
     ap (λ b. record { bytes = b; ending = (line_of text).ending }) told.1 ∙ ap (λ e. record { bytes = bs; ending = e }) told.0
 
 -- what a writer of that text holds, and what is left where memory fails
-
-pub pushed_two : {X E : Type 0} (r : Result X E) (t0 t1 t2 : List ℕ) (a b : ℕ) → t1 ≡ t0 ++ a ∷ [] → t2 ≡ cond (is_ok r) (t1 ++ b ∷ []) t1 →
-    IfOk r (λ _. t2 ≡ t0 ++ a ∷ b ∷ []) × IfErr r (λ _. (rest : List ℕ) × (t2 ++ rest ≡ t0 ++ a ∷ b ∷ []))
-pushed_two (Ok x) t0 t1 t2 a b e f = (f ∙ ap (λ t. t ++ b ∷ []) e ∙ append_assoc t0 (a ∷ []) (b ∷ []), tt)
-pushed_two (Err y) t0 t1 t2 a b e f = (tt, (b ∷ [], ap (λ t. t ++ b ∷ []) (f ∙ e) ∙ append_assoc t0 (a ∷ []) (b ∷ [])))
 
 pub hex_parts : (bs : List ℕ) → 1 ≤ length bs → byte_text (get_or bs 0 0) ++ more_text (rest_after 1 bs) ≡ hex_text bs
 hex_parts [] h = absurd (omega arith)

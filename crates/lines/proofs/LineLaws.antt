@@ -3,7 +3,7 @@ use Rattle.std.proofs.Common.{◌≡◌, ℕ, ◌+◌, ◌<◌, ◌≤◌, Bool,
 use Rattle.std.specs.Result.{result_err}
 use Rattle.std.specs.Char.{digit_value}
 use Rattle.std.proofs.lemmas.List.{append-nil, append_assoc, at_drop_more, at_drop_all}
-use Rattle.std.proofs.lemmas.Bool.{cond-true, ltb-true}
+use Rattle.std.proofs.lemmas.Bool.{ltb-true}
 use Rattle.lines.specs.declared.fault.Fault.{Fault}
 use Rattle.lines.specs.declared.fault.Fault.TheVariants.{Malformed}
 use Rattle.lines.specs.declared.line.Ending.{Ending}
@@ -78,13 +78,6 @@ digit_is c d e = is_digit d (digit_value c) (ltb (digit_value c) 16) (eqb c 32 |
 
 pub digit_small : (c d : ℕ) → Digit d ≡ symbol_of c → d < 16
 digit_small c d e = let h = digit_is c d e in subst (λ x. x < 16) (sym h.1) (ltb-true (digit_value c) 16 h.0)
-
-pub no_digit : (c : ℕ) → ((d : ℕ) → symbol_of c ≡ Digit d → ⊥) → ltb (digit_value c) 16 ≡ false
-no_digit c h = go (ltb (digit_value c) 16) refl
-  where
-    go : (b : Bool) → ltb (digit_value c) 16 ≡ b → b ≡ false
-    go true e = absurd (h (digit_value c) (cond-true _ _ _ e))
-    go false e = refl
 
 -- at the end of the text
 pub all_read : (line : Line) (held cs : List ℕ) (i : ℕ) (pending p : Option ℕ) → length cs ≤ i → pending ≡ p →

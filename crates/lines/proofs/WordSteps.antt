@@ -1,9 +1,9 @@
 -- Reading numbers of two bytes, one after the other. Assumes nothing.
-use Rattle.std.proofs.Common.{◌≡◌, ℕ, zero, suc, ◌+◌, ◌-◌, ◌*◌, ◌/◌, ◌%◌, ◌<◌, ◌≤◌, leb, List, [], ◌∷◌, ◌++◌, length, get_or, take, drop, set, replicate, Some, None, sym, refl, ap, ◌∙◌, subst, inl, inr, append_assoc, arith}
+use Rattle.std.proofs.Common.{◌≡◌, ℕ, zero, suc, ◌+◌, ◌-◌, ◌*◌, ◌/◌, ◌%◌, ◌<◌, ◌≤◌, leb, List, [], ◌∷◌, ◌++◌, length, get_or, take, drop, set, replicate, Some, None, sym, refl, ap, ◌∙◌, append_assoc, arith}
 use Rattle.std.specs.List.{AllByRecursion}
-use Rattle.std.proofs.ByRecursion.{All-push, All-get_or}
-use Rattle.std.proofs.lemmas.List.{take_more_set, take_all, drop-drop, drop-set-lt, get_or-drop, length-set, flat_map_more, nil_from_length, append-nil, drop-replicate, get_or-replicate, get_or_past, length-replicate, get_or_append_left, get_or-append_right}
-use Rattle.std.proofs.lemmas.Bool.{le-leb, lt-leb, cases_lt}
+use Rattle.std.proofs.ByRecursion.{All-push}
+use Rattle.std.proofs.lemmas.List.{take_more_set, take_all, drop-drop, drop-set-lt, get_or-drop, length-set, flat_map_more, nil_from_length, append-nil}
+use Rattle.std.proofs.lemmas.Bool.{le-leb, lt-leb}
 use Rattle.lines.specs.declared.fault.Fault.{Fault}
 use Rattle.lines.specs.declared.fault.Fault.TheVariants.{Malformed}
 use Rattle.lines.specs.Units.{Laid, reading_fault}
@@ -73,37 +73,10 @@ module _ {bytes old words rest : List ℕ} {i : ℕ} {f : Fault} {largest : ℕ}
   ended = let e : 0 ≡ length words - i = omega arith in ap (λ n. reading_fault (replicate n (word_up_to f largest)) rest) e ∙ at.same_fault
 
   module _ (none : length rest ≡ 0) where
-    pub no_fault : None ≡ reading_fault (replicate (length words) (word_up_to f largest)) bytes
-    no_fault = ap (reading_fault []) (sym (nil_from_length rest none)) ∙ ended
-
     pub whole : words_bytes words ≡ bytes
     whole =
         ap words_bytes (sym (take_all i words all)) ∙ sym (append-nil (words_bytes (take i words)))
         ∙ ap (λ bs. words_bytes (take i words) ++ bs) (sym (nil_from_length rest none)) ∙ at.so_far
-
-    pub all_bounded : AllByRecursion (λ x. x ≤ largest) words
-    all_bounded = subst (AllByRecursion (λ x. x ≤ largest)) (take_all i words all) at.bounded
-
--- words and then zeros
-
-pub zeros_left : (m n i : ℕ) → ◌≡◌ {A = ℕ} (get_or (drop n (replicate m 0)) i 0) 0
-zeros_left m n i =
-    rw (drop-replicate {X = ℕ} n m 0)
-    (elim (cases_lt i (m - n)) [
-      | inl l ↦ get_or-replicate (m - n) i 0 0 l
-      | inr g ↦ get_or_past (replicate {A = ℕ} (m - n) 0) i 0 (simp length-replicate g)
-    ])
-
-module _ (ws zs : List ℕ) (n : ℕ) (long : length ws ≡ n) (zero-all : (i : ℕ) → get_or zs i 0 ≡ 0) where
-  pub padded_past : (i : ℕ) → n ≤ i → get_or (ws ++ zs) i 0 ≡ 0
-  padded_past i h = get_or-append_right ws zs n i 0 long h ∙ zero-all (i - n)
-
-  pub padded_bounded : (m : ℕ) → AllByRecursion (λ x. x ≤ m) ws → (i : ℕ) → get_or (ws ++ zs) i 0 ≤ m
-  padded_bounded m h i =
-      elim (cases_lt i n) [
-        | inl l ↦ let k : i < length ws = omega arith in rw (get_or_append_left ws zs 0 i k) (All-get_or (λ x. x ≤ m) ws i 0 k h)
-        | inr g ↦ rw (padded_past i g) (omega arith)
-      ]
 
 pub words_laid : (f : Fault) (largest n : ℕ) → Laid (replicate n (word_up_to f largest))
 words_laid f largest zero = tt

@@ -36,7 +36,8 @@ pub fn how_many_may(numbers: &[u16], k: u16) -> Result<usize, Refusal>
 {
     check_ring(numbers, k)?;
     let holders = (0..numbers.len()).filter(|i| has_token(numbers, *i).unwrap_or(false));
-    Ok(holders.count())
+    let count = holders.count();
+    Ok(count)
 }
 
 // The only member that may move, or the first two.

@@ -1,31 +1,14 @@
--- Laws of orders that are obeyed: the memory that bytes stand for, and what holds afterwards. Assumes nothing.
-use Rattle.std.proofs.Common.{◌≡◌, ℕ, ◌+◌, ◌*◌, ◌/◌, ◌%◌, ◌≤◌, List, [], sym, refl, ap, ◌∙◌, arith}
+-- Laws of orders that are obeyed: what holds afterwards. Assumes nothing.
+use Rattle.std.proofs.Common.{◌≡◌, ℕ, ◌+◌, ◌≤◌, [], refl, arith}
 use Rattle.commands.specs.declared.order.Order.{Order}
 use Rattle.commands.specs.declared.order.Order.TheVariants.{Tick, Hear, Lose, Memory, Frame, ButtonDown, ButtonUp, Show}
 use Rattle.frames.specs.declared.settings.Settings.{Settings}
-use Rattle.posts.specs.declared.memory.Memory.{Memory as PostMemory}
-use Rattle.posts.specs.Layout.{memory_bytes}
 use Rattle.ring.specs.Events.{tallied, midway}
 use Rattle.ring.specs.Machine.{Machine, tick, hear, step, state_in}
-use Rattle.ring.specs.Plays.{Stage, memory_in, obeyed, answered}
+use Rattle.ring.specs.Plays.{Stage, obeyed, answered}
 use Rattle.ring.specs.Promise.{ring_of_settings}
 use Rattle.ring.specs.Tallies.{noted, anew}
 use Rattle.ring.proofs.Holders.{noted_moves}
-
-same_memory : {a b h i t u w x m n s r : ℕ} → a ≡ b → h ≡ i → t ≡ u → w ≡ x → m ≡ n → s ≡ r →
-    ◌≡◌ {A = PostMemory} (record { number = a; heard = h; turn = record { left = t }; wait = w; moves = m; since = s }) (record { number = b; heard = i; turn = record { left = u }; wait = x; moves = n; since = r })
-same_memory {a} {b} {h} {i} {t} {u} {w} {x} {m} {n} {s} {r} p q v y z e = cc
-
-word_back : (v : ℕ) → v / 256 * 256 + v % 256 ≡ v
-word_back v = omega arith
-
-count_back : (v : ℕ) → (v / 65536 / 256 * 256 + v / 65536 % 256) * 65536 + (v % 65536 / 256 * 256 + v % 65536 % 256) ≡ v
-count_back v = omega (arith, word_back (v / 65536), word_back (v % 65536))
-
--- the bytes of a memory stand for it
-pub memory_back : (x : PostMemory) (bs : List ℕ) → memory_bytes x ≡ bs → x ≡ memory_in bs
-memory_back x bs e =
-    same_memory (sym (word_back x.number)) (sym (word_back x.heard)) (sym (word_back x.turn.left)) (sym (word_back x.wait)) (sym (count_back x.moves)) (sym (count_back x.since)) ∙ ap memory_in e
 
 -- an order is two moves at most
 pub obeyed_moves : (o : Settings) (p : ℕ) (e : Order) (x : Stage) → (obeyed o p e x).tally.moves ≤ x.tally.moves + 2

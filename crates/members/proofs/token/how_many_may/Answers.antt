@@ -41,7 +41,7 @@ returns c =
     let s = c.args.numbers.now in
     let r = ring_of c.args.k s in
     let h = checked c.args.k s _ _ c.in_ok-check_ring.ensures in
-    let e : c.count.result ≡ length (filter (there r s) (range_with_len 0 (length s))) =
-    count_from_yields_List c.filter-holders.result _ c.count.ensures.ran
+    let e : c.count-count.result ≡ length (filter (there r s) (range_with_len 0 (length s))) =
+    count_from_yields_List c.filter-holders.result _ c.count-count.ensures.ran
     (YieldsList-from_filter _ (there r s) (YieldsList-from_range 0 (length s) (length s) (cc) (omega arith)) c.filter-holders.ensures.closure (λ x r q k. search (rules, tests, there_is))) in
     gives _ _ _ h.taken (e ∙ counted r s)
