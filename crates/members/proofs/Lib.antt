@@ -1,3 +1,4 @@
+-- Lemmas of this crate. Assumes nothing.
 pub mod Steps
 pub mod Diffs
 pub mod Chain

@@ -1,3 +1,4 @@
+-- What the contracts of this crate cite. Assumes nothing.
 pub mod Ring
 pub mod Potential
 pub mod Turns

@@ -1,1 +1,2 @@
+-- Lemmas of this crate. Assumes nothing.
 pub mod Rings

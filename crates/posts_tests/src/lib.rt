@@ -1,3 +1,4 @@
+// Examples of posts. Assumes nothing.
 #![tactic(auto)]
 
 // Examples of posts and their memories. Assumes nothing.

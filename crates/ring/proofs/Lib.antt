@@ -1,3 +1,4 @@
+-- Lemmas of this crate. Assumes nothing.
 pub mod Places
 pub mod PostMoves
 pub mod Changes

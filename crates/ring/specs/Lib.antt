@@ -1,3 +1,4 @@
+-- What the contracts of this crate cite. Assumes nothing.
 pub mod Numbers
 pub mod Machine
 pub mod Promise

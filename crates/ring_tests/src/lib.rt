@@ -1,3 +1,4 @@
+// Examples of scripts. Assumes nothing.
 #![tactic(auto)]
 
 // Examples of scripts that are played on a ring of two posts. Assumes nothing.
