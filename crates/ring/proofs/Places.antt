@@ -16,6 +16,19 @@ pub state_at : (n : ℕ) (x : Numbers) (j : ℕ) → j < 3 * n → at (state_of 
 unfolding state_of
 state_at n x j l = get_or-map-range_with_len (member_of n x) 0 (3 * n) j j 0 l (omega arith)
 
+-- the number of a member by what it is: a post, a frame or an end
+pub post_number : (n : ℕ) (x : Numbers) (i j : ℕ) → 3 * i ≡ j → member_of n x j ≡ get_or x.own i 0
+unfolding member_of
+post_number n x i j e = let part : j % 3 ≡ 0 = omega (arith, e) in let post : j / 3 ≡ i = omega (arith, e) in rw (part, post) refl
+
+pub frame_number : (n : ℕ) (x : Numbers) (i j : ℕ) → 3 * i + 1 ≡ j → member_of n x j ≡ get_or x.sent i 0
+unfolding member_of
+frame_number n x i j e = let part : j % 3 ≡ 1 = omega (arith, e) in let post : j / 3 ≡ i = omega (arith, e) in rw (part, post) refl
+
+pub end_number : (n : ℕ) (x : Numbers) (i j : ℕ) → 3 * i + 2 ≡ j → member_of n x j ≡ get_or x.heard (up n i) 0
+unfolding member_of
+end_number n x i j e = let part : j % 3 ≡ 2 = omega (arith, e) in let post : j / 3 ≡ i = omega (arith, e) in rw (part, post) refl
+
 -- one member's number changed, and no other
 pub state_set : (n : ℕ) (x y : Numbers) (a v : ℕ) → a < 3 * n → member_of n y a ≡ v → ((j : ℕ) → j < 3 * n → j ≢ a → member_of n y j ≡ member_of n x j) →
     state_of n y ≡ set (state_of n x) a v
