@@ -10,7 +10,7 @@ use crate::Settings;
 use lines::{Fault, ReadError, read_words};
 use std::alloc::Global;
 
-// The numbers of all members, in their order.
+// The numbers of all members, in their order. An allocator is passed to what allocates, here and elsewhere: settings and slices hold none.
 pub fn read_numbers(heap: Global, bytes: &[u8], settings: &Settings) -> Result<Vec<u16>, ReadError>
     ensures fault { refusal result ≡ first_fault (numbers_checks settings.now bytes.now) }
     ensures first { IsFirstFault (numbers_checks settings.now bytes.now) (refusal result) }

@@ -19,7 +19,7 @@ pub fn has_token(numbers: &[u16], i: usize) -> Option<bool>
 }
 
 // The member after `i` in a ring of so many, which is 0 after the last one.
-// The step of `guard::one_up` at an index: one function for both types would need a trait, for one line of arithmetic.
+// The step of `guard::one_up` at an index: integers of two widths have no trait in common that says what a successor is.
 pub fn member_after(members: usize, i: usize) -> usize
     ensures { result ≡ up members i }
 {

@@ -21,7 +21,8 @@ pub struct Memory {
     pub since: u32,
 }
 
-// `word` and `count` aren't written out in `from_bytes`: nothing says there that a byte of the array is below 256, so the proof didn't close.
+// `word` and `count` are two, since integers of two widths have no trait in common that says what bytes they are. They aren't written out in
+// `from_bytes`: nothing says there that a byte of the array is below 256, so the proof didn't close.
 fn word(high: u8, low: u8) -> u16
     ensures { word_bytes result ≡ high ∷ low ∷ [] }
 {

@@ -1,6 +1,5 @@
-// Examples of posts. Assumes nothing.
+// Examples of posts and their memories. Assumes nothing.
 #![tactic(auto)]
 
-// Examples of posts and their memories. Assumes nothing.
 #[cfg(test)]
 mod tests;

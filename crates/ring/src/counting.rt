@@ -1,5 +1,6 @@
-// Counting the moves of members, each at the cost of two members' guards. K plays no part in it. `Counted` is asked
-// by each contract, and is no invariant of numbers and tally together, since `shift` writes a number before it counts anew. Assumes nothing.
+// Counting the moves of members, each at the cost of two members' guards. K plays no part in it. Each contract asks that member `j` is
+// `there`, since `j` is an argument, and asks for `Counted`, which is no invariant of numbers and tally together: `shift` writes a number
+// before it counts anew. Assumes nothing.
 ghost use Rattle.std.specs.Prelude.{◌≡◌, ℕ, ◌+◌, ◌^◌, ◌<◌, ◌≤◌, length, if◌then◌else◌, slice_set};
 ghost use Rattle.members.specs.Answers.{ring_of};
 ghost use Rattle.members.specs.Ring.{how_many, may};

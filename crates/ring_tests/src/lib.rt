@@ -1,6 +1,5 @@
-// Examples of scripts. Assumes nothing.
+// Examples of scripts that are played on a ring of two posts. Assumes nothing.
 #![tactic(auto)]
 
-// Examples of scripts that are played on a ring of two posts. Assumes nothing.
 #[cfg(test)]
 mod tests;
