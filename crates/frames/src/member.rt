@@ -1,5 +1,5 @@
 // The members of a ring by their places, and their names in text. Assumes nothing.
-ghost use Rattle.std.specs.Prelude.{◌≡◌, Some};
+ghost use Rattle.std.specs.Prelude.{◌≡◌, ◌^◌, ◌<◌, Some, SomeIff};
 ghost use Rattle.frames.specs.MemberNames.{name_of, place_of};
 
 use std::fmt;
@@ -12,7 +12,7 @@ pub enum Member {
     End(usize),
 }
 
-// The member at a place in the ring. There is no way back but `3 * i` and the like, where i is known to be small enough.
+// The member at a place in the ring. `place` is the way back.
 impl From<usize> for Member {
     ghost from_gives = { λ place m. place_of m ≡ place };
 
@@ -23,6 +23,20 @@ impl From<usize> for Member {
             1 => Member::Frame(post),
             _ => Member::End(post),
         }
+    }
+}
+
+impl Member {
+    // Its place in the ring; `None` where that is past the largest `usize`, as of no member that was made from a place.
+    pub fn place(self) -> Option<usize>
+        ensures { SomeIff result (place_of self < 2 ^ 64) (place_of self) }
+    {
+        let (post, part) = match self {
+            Member::Post(post) => (post, 0),
+            Member::Frame(post) => (post, 1),
+            Member::End(post) => (post, 2),
+        };
+        post.checked_mul(3)?.checked_add(part)
     }
 }
 

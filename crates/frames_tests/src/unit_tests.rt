@@ -257,7 +257,31 @@ const MEMBERS: [(usize, Member, &str); 6] = [
 fn members_are_named_by_their_places(rt: HostRuntime) -> Result<(), Fail> {
     for (place, member, name) in MEMBERS {
         assert_eq!(rt; Member::from(place), member);
+        assert_eq!(rt; member.place(), Some(place));
         assert_eq!(rt; member.to_string(rt.alloc())?.as_str(), name);
     }
     Ok(())
+}
+
+// Members at the end of what a number can say, and their places, if those can be said.
+const FAR_MEMBERS: [(Member, Option<usize>); 6] = [
+    (
+        Member::End(6_148_914_691_236_517_204),
+        Some(18_446_744_073_709_551_614),
+    ),
+    (
+        Member::Post(6_148_914_691_236_517_205),
+        Some(18_446_744_073_709_551_615),
+    ),
+    (Member::Frame(6_148_914_691_236_517_205), None),
+    (Member::End(6_148_914_691_236_517_205), None),
+    (Member::Post(6_148_914_691_236_517_206), None),
+    (Member::End(usize::MAX), None),
+];
+
+#[test]
+fn members_have_places_up_to_the_largest(rt: HostRuntime) {
+    for (member, place) in FAR_MEMBERS {
+        assert_eq!(rt; member.place(), place);
+    }
 }

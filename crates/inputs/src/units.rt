@@ -2,11 +2,12 @@
 ghost use Rattle.std.specs.Prelude.{◌≡◌, false, [], IfSome, IfOk, IfErr, vec_len};
 ghost use Rattle.lines.specs.UnitLines.{line_in};
 ghost use Rattle.lines.specs.Hex.{is_blank};
+ghost use Rattle.std.specs.Io.{StopsAt as EndsAt};
 ghost use Rattle.inputs.specs.Stops.{StopsAt, StopsOrEnds};
 ghost use Rattle.inputs.specs.Taken.{one_more, GoesUp, Takes, Gives};
 
 use crate::Stop;
-use lines::{Ending, Fault, Unit, read_first_line};
+use lines::{Ending, Fault, Unit, read_line};
 use std::alloc::{AllocError, Global};
 use std::io::BufRead;
 
@@ -14,9 +15,9 @@ use std::io::BufRead;
 pub struct Units<R> {
     pub input: R,
     // what was read last
-    text: Vec<u8>,
+    pub text: Vec<u8>,
     // the bytes of the line in it
-    bytes: Vec<u8>,
+    pub bytes: Vec<u8>,
     // how many lines were read
     pub lines: u64,
 }
@@ -47,15 +48,18 @@ impl<R: BufRead> Units<R> {
         }
     }
 
-    // Takes the first line of the text: how it ended, or `None` where it is passed over.
+    // Takes the line in the text, in which a newline stands at the end only: how it ended, or `None` where it is passed over.
     fn take_line(&mut self) -> Result<Option<Ending>, AllocError>
+        requires { EndsAt self.old.text.items 10 }
         ensures unit { IfOk result (λ o. Takes self.old.text.items self.new.bytes.items o) }
         ensures text { self.new.text ≡ self.old.text }
         ensures input { self.new.input ≡ self.old.input }
         ensures count { self.new.lines ≡ one_more self.old.lines }
     {
         self.lines = self.lines.saturating_add(1);
-        let (ending, _) = read_first_line(self.text.as_slice(), &mut self.bytes)?;
+        let text = self.text.as_slice();
+        let line = text.strip_suffix(b"\n").unwrap_or(text);
+        let ending = read_line(line, &mut self.bytes)?;
         if self.unit(ending).is_blank() {
             Ok(None)
         } else {

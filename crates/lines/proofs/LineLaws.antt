@@ -1,9 +1,8 @@
 -- Laws of lines of bytes. Assumes nothing.
-use Rattle.std.proofs.Common.{◌≡◌, ℕ, ◌+◌, ◌<◌, ◌≤◌, Bool, true, false, cond, ◌||◌, eqb, ltb, List, [], ◌∷◌, ◌++◌, length, get_or, drop, IfSome, Some, None, Ok, Err, Option, Result, unwrap_or, sym, refl, ap, ◌∙◌, subst, arith}
+use Rattle.std.proofs.Common.{◌≡◌, ℕ, ◌+◌, ◌<◌, ◌≤◌, Bool, true, false, cond, ◌||◌, eqb, ltb, List, [], ◌∷◌, ◌++◌, length, get_or, drop, Some, None, Ok, Err, Option, Result, unwrap_or, sym, refl, ap, ◌∙◌, subst, arith}
 use Rattle.std.specs.Result.{result_err}
 use Rattle.std.specs.Char.{digit_value}
 use Rattle.std.proofs.lemmas.List.{append-nil, append_assoc, at_drop_more, at_drop_all}
-use Rattle.std.proofs.lemmas.Bool.{ltb-true}
 use Rattle.lines.specs.declared.fault.Fault.{Fault}
 use Rattle.lines.specs.declared.fault.Fault.TheVariants.{Malformed}
 use Rattle.lines.specs.declared.line.Ending.{Ending}
@@ -76,21 +75,11 @@ is_digit d v false false false e = let z : ◌≡◌ {A = ℕ} 0 1 = cc in absur
 pub digit_is : (c d : ℕ) → Digit d ≡ symbol_of c → (ltb (digit_value c) 16 ≡ true) × (d ≡ digit_value c)
 digit_is c d e = is_digit d (digit_value c) (ltb (digit_value c) 16) (eqb c 32 || eqb c 9) (eqb c 35) e
 
-pub digit_small : (c d : ℕ) → Digit d ≡ symbol_of c → d < 16
-digit_small c d e = let h = digit_is c d e in subst (λ x. x < 16) (sym h.1) (ltb-true (digit_value c) 16 h.0)
-
 -- at the end of the text
 pub all_read : (line : Line) (held cs : List ℕ) (i : ℕ) (pending p : Option ℕ) → length cs ≤ i → pending ≡ p →
     Remains line held (reading (drop i cs) pending) → Remains line held (reading [] p)
 all_read line held cs i pending p h same r =
     subst (Remains line held) (at_drop_all (λ left. reading left pending) cs i h ∙ ap (reading []) same) r
-
--- what holds between two characters
-abbrev pub Between : Line → List ℕ → List ℕ → Option ℕ → Type 0
-Between line held cs pending = Remains line held (reading cs pending) × IfSome pending (λ high. high < 16)
-
-pub between_same : (line : Line) (held held' cs : List ℕ) (p p' : Option ℕ) → held' ≡ held → p' ≡ p → Between line held cs p → Between line held' cs p'
-between_same line held held' cs p p' e f b = subst (λ h. Between line h cs p') (sym e) (subst (Between line held cs) (sym f) b)
 
 -- a value of a line is the value that was read of its bytes
 pub was_read : {X E : Type 0} (f : E) (e : Ending) (answer : Result X E) (v : X) → Ok v ≡ settled f e answer → answer ≡ Ok v

@@ -84,29 +84,26 @@ pub fn read_line(text: &[u8], bytes: &mut Vec<u8>) -> Result<Ending, AllocError>
     ensures first { OnErr result ((rest : List ℕ) × (bytes.new.items ++ rest ≡ (line_of text.now).bytes)) }
 {
     bytes.clear();
-    let mut high = None;
-    for c in without_return(text) {
-        let symbol = Symbol::from(*c);
-        match high {
-            Some(digit) => {
-                let Symbol::Digit(low) = symbol else {
+    let mut rest = without_return(text);
+    // from its front by pairs of digits: digit by digit takes up to half as long again
+    while let [c, after @ ..] = rest {
+        match Symbol::from(*c) {
+            Symbol::Digit(high) => {
+                let [d, after @ ..] = after else {
                     return Ok(Ending::Damaged);
                 };
-                bytes.push(16 * digit + low)?;
-                high = None;
+                let Symbol::Digit(low) = Symbol::from(*d) else {
+                    return Ok(Ending::Damaged);
+                };
+                bytes.push(16 * high + low)?;
+                rest = after;
             }
-            None => match symbol {
-                Symbol::Digit(digit) => high = Some(digit),
-                Symbol::Blank => {}
-                Symbol::Comment => return Ok(Ending::Whole),
-                Symbol::Stray => return Ok(Ending::Damaged),
-            },
+            Symbol::Blank => rest = after,
+            Symbol::Comment => return Ok(Ending::Whole),
+            Symbol::Stray => return Ok(Ending::Damaged),
         }
     }
-    match high {
-        None => Ok(Ending::Whole),
-        Some(_) => Ok(Ending::Damaged),
-    }
+    Ok(Ending::Whole)
 }
 
 // The bytes of the first line of a text, how it ended, and the text after it. Where memory fails, `bytes` has the first of them.

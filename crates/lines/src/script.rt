@@ -2,11 +2,17 @@
 ghost use Rattle.std.specs.Prelude.{◌≡◌, ◌+◌, ◌<◌, ◌≤◌, ◌∷◌, length, position, ◌==◌};
 ghost use Rattle.lines.specs.Text.{first_line, after_line, lines_of};
 
+use memchr::memchr;
+
 // Where the first newline stands.
 fn newline_in(text: &[u8]) -> Option<usize>
     ensures { result ≡ position (λ c. c == 10) text.now }
 {
-    text.iter().position(|c| *c == b'\n')
+    // an empty line isn't worth the search
+    match text {
+        [b'\n', ..] => Some(0),
+        _ => memchr(b'\n', text),
+    }
 }
 
 // The first line of a text, and the text after its newline.

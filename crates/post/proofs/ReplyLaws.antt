@@ -14,18 +14,18 @@ use Rattle.frames.specs.FrameUnit.{frame_checks, frame_fields}
 use Rattle.commands.specs.PostUnit.{post_order_checks, post_order_fields}
 use Rattle.lines.specs.Units.{Field, Laid, unit_checks}
 use Rattle.frames.proofs.FrameLaws.{frame_laid}
-use Rattle.post.specs.Replies.{fields_of, line_fault, obeyed, reply_to}
+use Rattle.post.specs.Replies.{fields_of, line_fault, obeyed, brought_by}
 
-pub refuses : (o : Settings) (p : Post) (l : Line) (f : Fault) → Some f ≡ line_fault o p l → ◌≡◌ {A = Result (Post × Reply) Fault} (Err f) (reply_to o p l)
-unfolding reply_to
+pub refuses : (o : Settings) (p : Post) (l : Line) (f : Fault) → Some f ≡ line_fault o p l → ◌≡◌ {A = Result (Post × Reply) Fault} (Err f) (brought_by o p l)
+unfolding brought_by
 refuses o p l f e = rw (← e)
 
-pub hears : (o : Settings) (p : Post) (l : Line) → None ≡ line_fault o p l → get_or l.bytes 0 0 ≡ 1 → ◌≡◌ {A = Result (Post × Reply) Fault} (Ok (after_frame o l.bytes p, Acted quiet)) (reply_to o p l)
-unfolding reply_to
+pub hears : (o : Settings) (p : Post) (l : Line) → None ≡ line_fault o p l → get_or l.bytes 0 0 ≡ 1 → ◌≡◌ {A = Result (Post × Reply) Fault} (Ok (after_frame o l.bytes p, Acted quiet)) (brought_by o p l)
+unfolding brought_by
 hears o p l e b = rw (← e, eq-eqb (get_or l.bytes 0 0) 1 b)
 
-pub obeys : (o : Settings) (p : Post) (l : Line) → None ≡ line_fault o p l → (get_or l.bytes 0 0 ≡ 1 → ⊥) → Ok (obeyed o p (get_or l.bytes 2 0)) ≡ reply_to o p l
-unfolding reply_to
+pub obeys : (o : Settings) (p : Post) (l : Line) → None ≡ line_fault o p l → (get_or l.bytes 0 0 ≡ 1 → ⊥) → Ok (obeyed o p (get_or l.bytes 2 0)) ≡ brought_by o p l
+unfolding brought_by
 obeys o p l e b = rw (← e, ne_eqb (get_or l.bytes 0 0) 1 b)
 
 -- a frame, and an order, as the unit of a line

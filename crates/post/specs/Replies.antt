@@ -32,8 +32,17 @@ abbrev pub unless_refused : Option Fault → Post × Reply → Result (Post × R
 unless_refused (Some f) done = Err f
 unless_refused None done = Ok done
 
--- the post after a line, and what it answers: a frame is heard, an order obeyed, anything else is refused for its first fault
-unfoldable pub reply_to : Settings → Post → Line → Result (Post × Reply) Fault
-reply_to o p l =
+-- what a line brings, the post after it and what it answers, or else its fault: a frame is heard, an order obeyed, anything else is refused for its first fault
+unfoldable pub brought_by : Settings → Post → Line → Result (Post × Reply) Fault
+brought_by o p l =
     unless_refused (line_fault o p l)
     (cond (slice_index l.bytes 0 == 1) (after_frame o l.bytes p, Acted quiet) (obeyed o p (slice_index l.bytes 2)))
+
+-- what is brought to post p: where that is a fault, p is left as it was
+abbrev pub left_to : Post → Result (Post × Reply) Fault → Post × Result Reply Fault
+left_to p (Ok done) = (done.0, Ok done.1)
+left_to p (Err f) = (p, Err f)
+
+-- the post after a line, and what it answers or why it refuses it
+abbrev pub reply_to : Settings → Post → Line → Post × Result Reply Fault
+reply_to o p l = left_to p (brought_by o p l)

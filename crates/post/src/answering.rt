@@ -2,7 +2,7 @@
 ghost use Rattle.std.specs.Prelude.{◌≡◌, ◌≢◌, slice_index};
 ghost use Rattle.lines.specs.UnitLines.{line_in};
 ghost use Rattle.commands.specs.PostUnit.{post_what};
-ghost use Rattle.post.specs.Replies.{obeyed, reply_to};
+ghost use Rattle.post.specs.Replies.{brought_by, obeyed, reply_to};
 
 use crate::reply::Reply;
 use commands::{PostOrder, read_post_order};
@@ -13,7 +13,7 @@ use posts::{Post, Told};
 // A frame.
 fn hear(post: Post, settings: &Settings, unit: Unit<'_>) -> Result<(Post, Reply), Fault>
     requires { slice_index unit.bytes.now 0 ≡ 1 }
-    ensures { result ≡ reply_to settings.now post (line_in unit.entry) }
+    ensures { result ≡ brought_by settings.now post (line_in unit.entry) }
 {
     unit.ending
         .settle(read_frame(unit.bytes, settings, post.place()))?;
@@ -38,7 +38,7 @@ fn obey_order(post: Post, settings: &Settings, order: PostOrder) -> (Post, Reply
 // An order to the post.
 fn obey(post: Post, settings: &Settings, unit: Unit<'_>) -> Result<(Post, Reply), Fault>
     requires { slice_index unit.bytes.now 0 ≢ 1 }
-    ensures { result ≡ reply_to settings.now post (line_in unit.entry) }
+    ensures { result ≡ brought_by settings.now post (line_in unit.entry) }
 {
     let order = unit
         .ending
@@ -46,12 +46,16 @@ fn obey(post: Post, settings: &Settings, unit: Unit<'_>) -> Result<(Post, Reply)
     Ok(obey_order(post, settings, order))
 }
 
-// The post after a line with this unit on it, and what it answers.
-pub fn reply(post: Post, settings: &Settings, unit: Unit<'_>) -> Result<(Post, Reply), Fault>
+// The post after a line with this unit on it, and what it answers, or why it refuses the line.
+pub fn reply(post: Post, settings: &Settings, unit: Unit<'_>) -> (Post, Result<Reply, Fault>)
     ensures { result ≡ reply_to settings.now post (line_in unit.entry) }
 {
-    match unit.bytes {
+    let brought = match unit.bytes {
         [1, ..] => hear(post, settings, unit),
         _ => obey(post, settings, unit),
+    };
+    match brought {
+        Ok((next, answer)) => (next, Ok(answer)),
+        Err(fault) => (post, Err(fault)),
     }
 }

@@ -52,11 +52,10 @@ fn run(rt: &HostRuntime) -> Result<(), Stop> {
         let Some(ending) = units.next_unit()? else {
             break;
         };
-        match reply(post, &settings, units.unit(ending)) {
-            Ok((next, answer)) => {
-                post = next;
-                print(rt, answer)?;
-            }
+        let (next, answer) = reply(post, &settings, units.unit(ending));
+        post = next;
+        match answer {
+            Ok(answer) => print(rt, answer)?,
             Err(fault) => println!(rt; "{fault}")?,
         }
     }

@@ -1,5 +1,6 @@
 -- What a play leaves in lent slices and what its report holds. Assumes nothing.
-use Rattle.std.specs.Prelude.{◌≡◌, ℕ, List, ◌++◌, map, Ok, Err, vec_items, Result}
+use Rattle.std.specs.Prelude.{◌≡◌, ℕ, Bool, List, [], ◌++◌, map, Ok, Err, vec_items, Result}
+use Rattle.std.specs.List.{flat_map}
 use Rattle.frames.specs.declared.settings.Settings.{Settings}
 use Rattle.lines.specs.Text.{lines_of}
 use Rattle.members.specs.Ring.{State}
@@ -15,18 +16,30 @@ use Rattle.ring.specs.Machine.{Machine, state_in}
 use Rattle.ring.specs.Plays.{Fitting, begins, Saying, shown, refused, played, sayings}
 use Rattle.ring.specs.Promise.{ring_of_settings}
 
--- what a report says of a line
-abbrev pub saying_of : Said → Saying
-saying_of (Shown s b c) = shown c.post (vec_items s) (vec_items b) c.moves c.since
-saying_of (Refused line fault) = refused line fault
+-- how a saying is reported: in short, with the numbers and the speakers of a show apart
+abbrev pub said_of : Saying → Said
+said_of (shown p s b moves since) = Shown record { post = p; moves = moves; since = since }
+said_of (refused line fault) = Refused line fault
 
--- the sayings that ys report are those of xs and then some more
-abbrev pub Adds : List Said → List Said → List Saying → Type 0
-Adds xs ys says = map saying_of ys ≡ map saying_of xs ++ says
+abbrev pub numbers_said : Saying → State
+numbers_said (shown p s b moves since) = s
+numbers_said (refused line fault) = []
+
+abbrev pub speakers_said : Saying → List Bool
+speakers_said (shown p s b moves since) = b
+speakers_said (refused line fault) = []
+
+-- a report q that has the sayings of r and then some more
+pub record Adds (r q : Report) (says : List Saying) : Type 0 where
+  pub said : vec_items q.said ≡ vec_items r.said ++ map said_of says
+  pub numbers : vec_items q.numbers ≡ vec_items r.numbers ++ flat_map numbers_said says
+  pub speakers : vec_items q.speakers ≡ vec_items r.speakers ++ flat_map speakers_said says
 
 -- a report of these sayings
-abbrev pub Tells : Report → List Saying → Type 0
-Tells r says = map saying_of (vec_items r.said) ≡ says
+pub record Tells (r : Report) (says : List Saying) : Type 0 where
+  pub said : vec_items r.said ≡ map said_of says
+  pub numbers : vec_items r.numbers ≡ flat_map numbers_said says
+  pub speakers : vec_items r.speakers ≡ flat_map speakers_said says
 
 -- the slices hold a machine and its numbers
 pub record Holds (o : Settings) (m : Machine) (ps : List Post) (ls : List Line) (s : State) : Type 0 where

@@ -20,14 +20,14 @@ impl Stage<'_> {
     // Plays line `line` of a script, with this unit on it, and adds what is said of it. Where memory fails the ring is as before the line.
     fn play_line(
         &mut self,
-        said: &mut Vec<Said>,
+        report: &mut Report,
         unit: Unit<'_>,
         line: u64,
     ) -> Result<(), AllocError>
         requires in_step { KeptInStep self.old }
         requires room { self.old.tally.moves + 2 < 2 ^ 64 }
         ensures stage { Becomes self.old self.new (if is_ok result then stage_of_line self.old.settings.now (line_in unit.entry) (stage_in self.old) else stage_in self.old) }
-        ensures says { OnOk result (Adds said.old.items said.new.items (says_of_line self.old.settings.now line (line_in unit.entry) (stage_in self.old).machine)) }
+        ensures says { OnOk result (Adds report.old report.new (says_of_line self.old.settings.now line (line_in unit.entry) (stage_in self.old).machine)) }
         ensures moves { self.new.tally.moves ≤ self.old.tally.moves + 2 }
     {
         if unit.is_blank() {
@@ -36,16 +36,12 @@ impl Stage<'_> {
         let command = match unit.ending.settle(read_order(unit.bytes, self.settings)) {
             Ok(command) => command,
             Err(fault) => {
-                said.push(Said::Refused { line, fault })?;
+                report.said.push(Said::Refused { line, fault })?;
                 return Ok(());
             }
         };
         match command.order {
-            Order::Show => {
-                let shown = self.show(*said.allocator(), command.post)?;
-                said.push(shown)?;
-                Ok(())
-            }
+            Order::Show => self.show(report, command.post),
             order => {
                 self.obey(usize::from(command.post), order);
                 Ok(())
@@ -91,7 +87,12 @@ pub fn play(
         numbers,
         tally,
     };
-    let mut said = Vec::new(heap);
+    let mut report = Report {
+        said: Vec::new(heap),
+        numbers: Vec::new(heap),
+        speakers: Vec::new(heap),
+        tally,
+    };
     let mut bytes = Vec::new(heap);
     let mut line = 0;
     let mut rest = script;
@@ -107,11 +108,9 @@ pub fn play(
             bytes: bytes_read(&three, &bytes),
             ending,
         };
-        stage.play_line(&mut said, unit, line)?;
+        stage.play_line(&mut report, unit, line)?;
         rest = after;
     }
-    Ok(Report {
-        said,
-        tally: stage.tally,
-    })
+    report.tally = stage.tally;
+    Ok(report)
 }

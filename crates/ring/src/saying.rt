@@ -1,37 +1,42 @@
-// What a show says. Assumes nothing.
-ghost use Rattle.std.specs.Prelude.{◌≡◌, ◌<◌, map, IfOk};
+// What a show says, added to a report. Where memory fails, the report has a first part of it. Assumes nothing.
+ghost use Rattle.std.specs.Prelude.{◌≡◌, ◌<◌, [], ◌∷◌, ◌++◌, map, OnOk};
 ghost use Rattle.posts.specs.Steps.{deeds_in};
 ghost use Rattle.ring.specs.Lent.{KeptInStep, stage_in};
 ghost use Rattle.ring.specs.Plays.{show};
-ghost use Rattle.ring.specs.Reports.{saying_of};
+ghost use Rattle.ring.specs.Reports.{Adds};
 
-use crate::Said;
 use crate::stage::Stage;
+use crate::{Report, Said};
 use frames::Settings;
 use posts::Post;
-use std::alloc::{AllocError, Global};
+use std::alloc::AllocError;
 
-// For each post whether it would speak in a tick now.
-fn speakers_of(heap: Global, settings: &Settings, posts: &[Post]) -> Result<Vec<bool>, AllocError>
-    ensures { IfOk result (λ v. v.items ≡ map (λ p. (deeds_in settings.now p).speaks) posts.now) }
+// Adds for each post whether it would speak in a tick now. One by one, since the vector holds those of earlier shows.
+fn push_speakers(
+    speakers: &mut Vec<bool>,
+    settings: &Settings,
+    posts: &[Post],
+) -> Result<(), AllocError>
+    ensures { OnOk result (speakers.new.items ≡ speakers.old.items ++ map (λ p. (deeds_in settings.now p).speaks) posts.now) }
 {
-    posts
-        .iter()
-        .map(|post| post.deeds(settings).speaks)
-        .collect(heap)
+    for post in posts {
+        speakers.push(post.deeds(settings).speaks)?;
+    }
+    Ok(())
 }
 
 impl Stage<'_> {
     // All numbers, who would speak, and the counts of one post.
-    pub(crate) fn show(&self, heap: Global, post: u8) -> Result<Said, AllocError>
+    pub(crate) fn show(&self, report: &mut Report, post: u8) -> Result<(), AllocError>
         requires in_step { KeptInStep self.now }
         requires there { post < self.now.settings.now.posts }
-        ensures { IfOk result (λ said. saying_of said ≡ show self.now.settings.now post (stage_in self.now).machine) }
+        ensures { OnOk result (Adds report.old report.new (show self.now.settings.now post (stage_in self.now).machine ∷ [])) }
     {
-        Ok(Said::Shown {
-            numbers: self.numbers.to_vec(heap)?,
-            speakers: speakers_of(heap, self.settings, self.posts)?,
-            counts: self.posts[usize::from(post)].counts(),
-        })
+        report.numbers.extend_from_slice(self.numbers)?;
+        push_speakers(&mut report.speakers, self.settings, self.posts)?;
+        report
+            .said
+            .push(Said::Shown(self.posts[usize::from(post)].counts()))?;
+        Ok(())
     }
 }

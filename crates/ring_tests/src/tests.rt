@@ -123,21 +123,11 @@ const SPEAKING: &[u8] =
     b"03 01 06\n03 00 01\n03 01 02\n03 01 08\n03 01 01\n03 01 01\n03 01 08\n03 01 01\n03 01 08\n03 02 01\nzz\n\n03 00 09 # unknown\n03 01\n";
 
 // A show of post 1.
-fn shown(
-    heap: Global,
-    numbers: [u16; 6],
-    speakers: [bool; 2],
-    moves: u32,
-    since: u32,
-) -> Result<Said, Fail> {
-    Ok(Said::Shown {
-        numbers: numbers.to_vec(heap)?,
-        speakers: speakers.to_vec(heap)?,
-        counts: Counts {
-            post: 1,
-            moves,
-            since,
-        },
+fn shown(moves: u32, since: u32) -> Said {
+    Said::Shown(Counts {
+        post: 1,
+        moves,
+        since,
     })
 }
 
@@ -148,19 +138,26 @@ fn refused(line: u64, fault: Fault) -> Said {
 
 #[test]
 fn shows_and_refused_lines(rt: HostRuntime) -> Result<(), Fail> {
-    let heap = rt.alloc();
     let mut numbers = [7; 6];
-    let report = played(heap, SPEAKING, &mut numbers)?;
+    let report = played(rt.alloc(), SPEAKING, &mut numbers)?;
     let said = [
-        shown(heap, [1, 1, 1, 0, 0, 0], [false, true], 0, 0)?,
-        shown(heap, [1, 1, 1, 0, 0, 0], [false, false], 0, 2)?,
-        shown(heap, [1, 1, 1, 1, 1, 0], [false, false], 1, 0)?,
+        shown(0, 0),
+        shown(0, 2),
+        shown(1, 0),
         refused(10, Fault::OutOfRange),
         refused(11, Fault::Malformed),
         refused(13, Fault::Malformed),
         refused(14, Fault::Malformed),
     ];
     assert_eq!(rt; report.said.as_slice(), said.as_slice());
+    assert_eq!(rt;
+        report.numbers.as_slice(),
+        [1, 1, 1, 0, 0, 0, 1, 1, 1, 0, 0, 0, 1, 1, 1, 1, 1, 0].as_slice()
+    );
+    assert_eq!(rt;
+        report.speakers.as_slice(),
+        [false, true, false, false, false, false].as_slice()
+    );
     Ok(())
 }
 

@@ -42,6 +42,7 @@ fn run(rt: &HostRuntime) -> Result<(), Stop> {
     let mut printer = Printer {
         out: BufWriter::new(heap, rt.stdout())?,
         lines_before: units.lines,
+        settings,
         bound: most_moves(3 * u16::from(settings.posts)),
     };
     printer.print(&report)

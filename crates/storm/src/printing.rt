@@ -1,9 +1,10 @@
 // A report in text, written piece by piece as it is gone through.
 ghost use Rattle.std.specs.Iterator.{IsFinite};
 
-use frames::Member;
+use frames::{Member, Settings};
 use inputs::Stop;
 use members::has_token;
+use posts::Counts;
 use ring::{Report, Said, Tally};
 use std::io::Write;
 
@@ -12,6 +13,8 @@ pub struct Printer<W> {
     pub out: W,
     // how many lines of the input stood before the script
     pub lines_before: u64,
+    // the ring's, which say how many numbers and speakers a show has
+    pub settings: Settings,
     // the most moves until the ring is healed
     pub bound: u64,
 }
@@ -63,27 +66,20 @@ impl<W: Write> Printer<W> {
         self.print_members(speaking.map(|(post, _)| Member::Post(post)))
     }
 
-    // A show or a refused line, the whole list of what is said.
-    fn print_said(&mut self, said: &Said) -> Result<(), Stop> {
-        match said {
-            Said::Shown {
-                numbers,
-                speakers,
-                counts,
-            } => {
-                write!(self.out, "show: ")?;
-                self.print_numbers(numbers)?;
-                write!(self.out, "; word: ")?;
-                self.print_holders(numbers)?;
-                write!(self.out, "; speaks: ")?;
-                self.print_speakers(speakers)?;
-                writeln!(self.out, "; {counts}")?;
-            }
-            Said::Refused { line, fault } => {
-                let line = line.saturating_add(self.lines_before);
-                writeln!(self.out, "line {line}: {fault}")?;
-            }
-        }
+    // A show of one post, with these numbers and speakers.
+    fn print_show(
+        &mut self,
+        numbers: &[u16],
+        speakers: &[bool],
+        counts: Counts,
+    ) -> Result<(), Stop> {
+        write!(self.out, "show: ")?;
+        self.print_numbers(numbers)?;
+        write!(self.out, "; word: ")?;
+        self.print_holders(numbers)?;
+        write!(self.out, "; speaks: ")?;
+        self.print_speakers(speakers)?;
+        writeln!(self.out, "; {counts}")?;
         Ok(())
     }
 
@@ -102,9 +98,28 @@ impl<W: Write> Printer<W> {
         Ok(())
     }
 
+    // A show or a refused line, the whole list of what is said: each show has its numbers and speakers from the front of those of all.
     pub fn print(&mut self, report: &Report) -> Result<(), Stop> {
+        let mut numbers = report.numbers.as_slice();
+        let mut speakers = report.speakers.as_slice();
         for said in &report.said {
-            self.print_said(said)?;
+            match *said {
+                Said::Shown(counts) => {
+                    let (shown, more) = numbers.split_at(
+                        numbers.len().min(self.settings.members()),
+                    );
+                    let (speaking, others) = speakers.split_at(
+                        speakers.len().min(usize::from(self.settings.posts)),
+                    );
+                    self.print_show(shown, speaking, counts)?;
+                    numbers = more;
+                    speakers = others;
+                }
+                Said::Refused { line, fault } => {
+                    let line = line.saturating_add(self.lines_before);
+                    writeln!(self.out, "line {line}: {fault}")?;
+                }
+            }
         }
         self.print_summary(report.tally)?;
         self.out.flush()?;

@@ -1,73 +1,51 @@
--- What `read_line` owes, character by character. Assumes nothing.
-use Rattle.std.proofs.Common.{◌≡◌, ◌+◌, ◌*◌, ◌<◌, [], ◌∷◌, ◌++◌, length, get_or, drop, Some, None, vec_items, ap, ◌∙◌, subst, arith}
-use Rattle.lines.specs.declared.line.Symbol.TheVariants.{Digit, Blank, Comment, Stray}
+-- What `read_line` owes, byte by byte. Assumes nothing.
+use Rattle.std.proofs.Common.{drop, Some, None, vec_items, refl, ap, ◌∙◌, subst, arith}
+use Rattle.std.proofs.lemmas.List.{take_rest}
+use Rattle.lines.specs.declared.line.Symbol.TheVariants.{Digit, Comment, Stray}
 use Rattle.lines.specs.declared.line.Ending.TheVariants.{Whole, Damaged}
-use Rattle.lines.specs.Hex.{reading, line_of}
-use Rattle.lines.proofs.LineLaws.{Remains, one_character, pushed_byte, done, cut_byte, digit_small, all_read, between_same}
+use Rattle.lines.specs.Hex.{symbol_of, reading, line_of}
+use Rattle.lines.proofs.LineLaws.{Remains, one_character, done, cut_byte, all_read}
 use Rattle.lines.proofs.Spelling.{line_spelled}
+use Rattle.lines.proofs.UnitSteps.{rest_item}
 use Rattle.lines.proofs.line.read_line.Goals as goal
-use Rattle.lines.proofs.line.read_line.Goals.{in-Some+in-Digit+in_ok-push-in-Some, in-None+in-Digit-symbol, in-None+in-Blank}
 
-pub returns-in_default : goal.returns-in_default
-returns-in_default c =
+pub returns-in_default-after-clause-whole : goal.returns-in_default-after-clause-whole
+returns-in_default-after-clause-whole c =
     let line = line_of c.args.text.now in
-    let held = vec_items c.loop-c.bytes in
-    let cs = c.without_return-c-items.result.now in
-    let seen = one_character line held cs c.loop-c.c-index c.loop-c.high (Some c.in-Some.digit) c.from-symbol.result (omega arith)
-    c.in-Some.is c.from-symbol.ensures c.loop-c.invariant.0 in
-    let d = done line held Damaged
-    (subst (Remains line held) (cut_byte c.in-Some.digit c.from-symbol.result (reading (drop (c.loop-c.c-index + 1) cs)) c.in_default.not-Digit) seen) in
-    record { ending = d.1; bytes = d.0; whole = line_spelled c.args.text.now _ _ d.0 d.1; first = tt }
+    let held = vec_items c.loop-rest.bytes in
+    let cs = c.loop-rest.rest.now in
+    let half = one_character line held cs 0 None None (Digit c.in-Digit.high) (omega arith) refl c.in-Digit.ensures c.loop-rest.invariant in
+    let d = done line held Damaged (all_read line held cs 1 (Some c.in-Digit.high) _ (omega arith) refl half) in
+    line_spelled c.args.text.now _ _ d.0 d.1
 
-pub returns-in-Comment : goal.returns-in-Comment
-returns-in-Comment c =
-    let d = done _ _ Whole
-    (one_character _ _ c.without_return-c-items.result.now c.loop-c.c-index c.loop-c.high None Comment (omega arith) c.in-None.is
-    c.in-Comment.ensures c.loop-c.invariant.0) in
-    record { ending = d.1; bytes = d.0; whole = line_spelled c.args.text.now _ _ d.0 d.1; first = tt }
-
-pub returns-in-Stray : goal.returns-in-Stray
-returns-in-Stray c =
-    let d = done _ _ Damaged
-    (one_character _ _ c.without_return-c-items.result.now c.loop-c.c-index c.loop-c.high None Stray (omega arith) c.in-None.is
-    c.in-Stray.ensures c.loop-c.invariant.0) in
-    record { ending = d.1; bytes = d.0; whole = line_spelled c.args.text.now _ _ d.0 d.1; first = tt }
-
-pub loop-c-preserved : goal.loop-c-preserved
-loop-c-preserved c =
+pub returns-in_default-from : goal.returns-in_default-from
+returns-in_default-from c =
     let line = line_of c.args.text.now in
-    let held = vec_items c.loop-c.bytes in
-    let cs = c.without_return-c-items.result.now in
-    let i = c.loop-c.c-index in
-    let within : i < length cs = omega arith in
-    elim c.match-high.branch [
-      | in-Some+in-Digit+in_ok-push-in-Some w ↦
-          let b = 16 * w.in-Some.digit + w.in-Digit.low in
-          let seen = one_character line held cs i c.loop-c.high (Some w.in-Some.digit) (Digit w.in-Digit.low) within w.in-Some.is
-          w.in-Digit.ensures c.loop-c.invariant.0 in
-          let after : vec_items w.push.new.self ≡ held ++ b ∷ [] = w.in_ok-push-in-Some.ensures.items in
-          between_same line (held ++ b ∷ []) _ (drop (i + 1) cs) None _ (ap vec_items w.bytes-is ∙ after) w.high-is
-          (pushed_byte line held b (reading (drop (i + 1) cs) None) seen, tt)
-      | in-None+in-Digit-symbol w ↦
-          let d = w.in-Digit-symbol.digit in
-          between_same line held _ (drop (i + 1) cs) (Some d) _ (ap vec_items w.bytes-is) w.high-is (
-            one_character line held cs i c.loop-c.high None (Digit d) within w.in-None.is w.in-Digit-symbol.ensures c.loop-c.invariant.0,
-            digit_small (get_or cs i 0) d w.in-Digit-symbol.ensures,
-          )
-      | in-None+in-Blank w ↦
-          between_same line held _ (drop (i + 1) cs) None _ (ap vec_items w.bytes-is) (w.high-is ∙ w.in-None.is)
-          (one_character line held cs i c.loop-c.high None Blank within w.in-None.is w.in-Blank.ensures c.loop-c.invariant.0, tt)
-    ]
+    let held = vec_items c.loop-rest.bytes in
+    let cs = c.loop-rest.rest.now in
+    let high = c.in-Digit.high in
+    let half = one_character line held cs 0 None None (Digit high) (omega arith) refl c.in-Digit.ensures c.loop-rest.invariant in
+    let next = c.from-in-Digit.ensures ∙ ap symbol_of (rest_item cs 1 _ (take_rest cs 1) 0) in
+    let seen = one_character line held cs 1 (Some high) _ c.from-in-Digit.result (omega arith) refl next half in
+    let d = done line held Damaged (subst (Remains line held) (cut_byte high c.from-in-Digit.result (reading (drop 2 cs)) c.in_default-from.not-Digit) seen) in
+    record { ending = d.1; bytes = d.0; whole = line_spelled c.args.text.now _ _ d.0 d.1; first = tt }
 
-pub returns-in-None-high : goal.returns-in-None-high
-returns-in-None-high c =
+pub returns-in-Comment-clause-whole : goal.returns-in-Comment-clause-whole
+returns-in-Comment-clause-whole c =
     let d = done _ _ Whole
-    (all_read _ _ c.without_return-c-items.result.now c.loop-c.c-index c.loop-c.high None (omega arith) c.in-None-high.is c.loop-c.invariant.0) in
-    record { ending = d.1; bytes = d.0; whole = line_spelled c.args.text.now _ _ d.0 d.1; first = tt }
+    (one_character (line_of c.args.text.now) (vec_items c.loop-rest.bytes) c.loop-rest.rest.now 0 None None Comment (omega arith) refl
+    c.in-Comment.ensures c.loop-rest.invariant) in
+    line_spelled c.args.text.now _ _ d.0 d.1
 
-pub returns-in-Some-high : goal.returns-in-Some-high
-returns-in-Some-high c =
+pub returns-in-Stray-clause-whole : goal.returns-in-Stray-clause-whole
+returns-in-Stray-clause-whole c =
     let d = done _ _ Damaged
-    (all_read _ _ c.without_return-c-items.result.now c.loop-c.c-index c.loop-c.high (Some c.in-Some-high.field-0) (omega arith) c.in-Some-high.is
-    c.loop-c.invariant.0) in
-    record { ending = d.1; bytes = d.0; whole = line_spelled c.args.text.now _ _ d.0 d.1; first = tt }
+    (one_character (line_of c.args.text.now) (vec_items c.loop-rest.bytes) c.loop-rest.rest.now 0 None None Stray (omega arith) refl
+    c.in-Stray.ensures c.loop-rest.invariant) in
+    line_spelled c.args.text.now _ _ d.0 d.1
+
+pub returns-clause-whole : goal.returns-clause-whole
+returns-clause-whole c =
+    let d = done _ _ Whole
+    (all_read (line_of c.args.text.now) (vec_items c.loop-rest.bytes) c.loop-rest.rest.now 0 None None (omega arith) refl c.loop-rest.invariant) in
+    line_spelled c.args.text.now _ _ d.0 d.1

@@ -26,7 +26,7 @@ loop-rest-init c =
     let m : Machine = record { posts = c.args.posts.now; lines = c.args.lines.now } in
     let h = c.in_ok-tally.ensures in
     let w = fitting_whole o m.posts m.lines c.args.numbers.now h.fits in
-    midplay_none o c.args.script.now _ _ refl (record { sound = subst (Sound o m) (sym h.tally) (sound_anew o m w); same = h.numbers }) h.tally c.new-said.ensures.items
+    midplay_none o c.args.script.now _ _ refl (record { sound = subst (Sound o m) (sym h.tally) (sound_anew o m w); same = h.numbers }) h.tally (record { said = c.new.ensures.items; numbers = c.new-2.ensures.items; speakers = c.new-3.ensures.items })
 
 pub slice_bounds-ending-count : goal.slice_bounds-ending-count
 slice_bounds-ending-count c = three_long c.loop-rest.rest.now c.in-Some.ensures.0
@@ -69,19 +69,19 @@ loop-rest-preserved c =
     let h = c.in_ok-play_line.ensures in
     let d = line_is (line_of (first_line s)) c.bytes_read.result.now c.match-three.ending.0 f.0 f.1 in
     let n = c.loop-rest.line + 1 in
-    midplay_more c.args.settings.now c.args.script.now s _ x c.loop-rest.line (vec_items c.loop-rest.said) c.loop-rest.invariant
-    (first_line s) c.match-three.ending.1.now y (vec_items c.play_line.new.said) (lines_first s l ∙ ap (λ t. first_line s ∷ lines_of t) (sym f.2))
+    midplay_more c.args.settings.now c.args.script.now s _ x c.loop-rest.line c.loop-rest.report c.loop-rest.invariant
+    (first_line s) c.match-three.ending.1.now y c.play_line.new.report (lines_first s l ∙ ap (λ t. first_line s ∷ lines_of t) (sym f.2))
     (omega (arith, after_shorter s l, ap length f.2))
     (subst (Becomes x y) (ap (λ z. stage_of_line o z (stage_in x)) d ∙ stage_read o (first_line s) (stage_in x)) h.stage)
-    (subst (Adds (vec_items c.loop-rest.said) (vec_items c.play_line.new.said)) (ap (λ z. says_of_line o n z (stage_in x).machine) d ∙ says_read o n (first_line s) (stage_in x).machine) h.says)
+    (subst (Adds c.loop-rest.report c.play_line.new.report) (ap (λ z. says_of_line o n z (stage_in x).machine) d ∙ says_read o n (first_line s) (stage_in x).machine) h.says)
     h.moves
 
 pub returns-clause-outcome : goal.returns-clause-outcome
 returns-clause-outcome c =
     let e : length c.loop-rest.rest.now ≡ 0 = eqb-true (length c.loop-rest.rest.now) 0 (sym c.is_empty.ensures ∙ c.loop-rest-test.false) in (
       c.in_ok-tally.ensures.fits,
-      midplay_all c.args.settings.now c.args.script.now c.loop-rest.rest.now _ c.loop-rest.stage c.loop-rest.line (record { said = c.loop-rest.said; tally = c.loop-rest.stage.tally }) _ _ _
-          c.loop-rest.invariant e refl (search rules) (search rules) (search rules),
+      midplay_all c.args.settings.now c.args.script.now c.loop-rest.rest.now _ c.loop-rest.stage c.loop-rest.line c.loop-rest.report _ _ _
+          c.loop-rest.invariant e (search rules) (search rules) (search rules),
     )
 
 pub returns-in_err-tally-clause-progress : goal.returns-in_err-tally-clause-progress

@@ -1,14 +1,13 @@
 -- A line is passed over, refused, shown, or obeyed.
-use Rattle.std.proofs.Common.{◌≡◌, [], ◌∷◌, Some, sym, refl, ap, ◌∙◌, subst, arith}
+use Rattle.std.proofs.Common.{◌≡◌, [], ◌∷◌, Some, Ok, Err, Result, OnOk, is_ok, if◌then◌else◌, sym, refl, ap, ◌∙◌, subst, arith}
 use Rattle.std.specs.Result.{result_err}
 use Rattle.lines.specs.Hex.{Line}
-use Rattle.ring.specs.declared.report.Said.TheVariants.{Refused}
 use Rattle.ring.specs.Lent.{Becomes, stage_in}
-use Rattle.ring.specs.Plays.{Stage, line_fault, refused, show, obeyed, answered, stage_of_line, says_of_line}
+use Rattle.ring.specs.Plays.{Stage, line_fault, show, obeyed, answered, stage_of_line, says_of_line}
 use Rattle.ring.specs.Reports.{Adds}
 use Rattle.ring.proofs.ObeyLaws.{obeyed_moves, quiet_order}
 use Rattle.ring.proofs.PlayLaws.{Commands, fault_found, order_found, blank_stage, blank_says, refused_stage, refused_says, order_stage, order_says}
-use Rattle.ring.proofs.SayLaws.{adds_none, adds_one}
+use Rattle.ring.proofs.SayLaws.{adds_none}
 use Rattle.ring.proofs.StageLaws.{stays}
 use Rattle.ring.proofs.stage.Stage.play_line.Goals as goal
 use Rattle.ring.proofs.stage.Stage.play_line.Goals.{In-Ok, In-Err, Start}
@@ -23,7 +22,7 @@ returns-then-is_blank-clause-stage c =
 pub returns-then-is_blank-clause-says : goal.returns-then-is_blank-clause-says
 returns-then-is_blank-clause-says c =
     let x = c.args.self.now in
-    let s = c.args.said.now.items in
+    let s = c.args.report.now in
     let k : Line = record { bytes = c.args.unit.bytes.now; ending = c.args.unit.ending } in
     let b = sym c.is_blank.ensures ∙ c.if-is_blank.true in
     subst (Adds s s) (sym (blank_says x.settings.now k (stage_in x) c.args.line b)) (adds_none s)
@@ -49,8 +48,10 @@ returns-in-Err-clause-says c =
     let f = c.in-Err.fault in
     let k : Line = record { bytes = c.args.unit.bytes.now; ending = c.args.unit.ending } in
     let b = sym c.is_blank.ensures ∙ c.if-is_blank.false in
-    subst (Adds c.args.said.now.items c.push.new.self.items) (sym (refused_says x.settings.now k (stage_in x) n b f (found (goal.at.returns-in-Err-clause-says c).In-Err)))
-    (adds_one c.args.said.now.items c.push.new.self.items (Refused n f) (refused n f) c.in_ok-push-in-Err.ensures.items refl)
+    let r = c.args.report.now in
+    let a = adds_none r in
+    subst (Adds r record { said = c.push.new.self; numbers = r.numbers; speakers = r.speakers; tally = r.tally }) (sym (refused_says x.settings.now k (stage_in x) n b f (found (goal.at.returns-in-Err-clause-says c).In-Err)))
+    (record { said = c.in_ok-push-in-Err.ensures.items; numbers = a.numbers; speakers = a.speakers })
 
 -- the command that was found is the line's
 commanded : (c : In-Ok) → let k : Line = record { bytes = c.args.unit.bytes.now; ending = c.args.unit.ending } in
@@ -59,38 +60,42 @@ commanded c =
     let k : Line = record { bytes = c.args.unit.bytes.now; ending = c.args.unit.ending } in
     order_found c.args.self.now.settings.now k c.read_order.result c.settle.result c.read_order.ensures.fault c.settle.ensures.fault c.settle.ensures.value c.read_order.ensures.value c.read_order.ensures.below c.in-Ok.command c.in-Ok.is
 
-pub returns-in_ok-push-in-Show-clause-stage : goal.returns-in_ok-push-in-Show-clause-stage
+-- whatever a show answers, the stage is as it was
+either : {X E : Type 0} (r : Result X E) (y z : Stage) → y ≡ z → (if is_ok r then y else z) ≡ z
+either (Ok v) y z e = e
+either (Err f) y z e = refl
+
+pub returns-in-Show-clause-stage : goal.returns-in-Show-clause-stage
 unfolding obeyed
-returns-in_ok-push-in-Show-clause-stage c =
+returns-in-Show-clause-stage c =
     let x = c.args.self.now in
     let o = x.settings.now in
     let p = c.in-Ok.command.post in
     let k : Line = record { bytes = c.args.unit.bytes.now; ending = c.args.unit.ending } in
     let b = sym c.is_blank.ensures ∙ c.if-is_blank.false in
-    let d = commanded (goal.at.returns-in_ok-push-in-Show-clause-stage c).In-Ok in
+    let d = commanded (goal.at.returns-in-Show-clause-stage c).In-Ok in
     let e : stage_of_line o k (stage_in x) ≡ stage_in x = order_stage o k (stage_in x) c.args.line b c.in-Ok.command d.faultless d.written ∙ ap (λ z. obeyed o p z (stage_in x)) c.in-Show.is in
-    subst (Becomes x x) (sym e) (stays x c.requires.in_step)
+    subst (Becomes x x) (sym (either c.show.result _ _ e)) (stays x c.requires.in_step)
 
-pub returns-in_ok-push-in-Show-clause-says : goal.returns-in_ok-push-in-Show-clause-says
+pub returns-in-Show-clause-says : goal.returns-in-Show-clause-says
 unfolding answered
-returns-in_ok-push-in-Show-clause-says c =
+returns-in-Show-clause-says c =
     let x = c.args.self.now in
     let o = x.settings.now in
     let m = (stage_in x).machine in
     let p = c.in-Ok.command.post in
     let k : Line = record { bytes = c.args.unit.bytes.now; ending = c.args.unit.ending } in
     let b = sym c.is_blank.ensures ∙ c.if-is_blank.false in
-    let d = commanded (goal.at.returns-in_ok-push-in-Show-clause-says c).In-Ok in
+    let d = commanded (goal.at.returns-in-Show-clause-says c).In-Ok in
     let e : says_of_line o c.args.line k m ≡ show o p m ∷ [] = order_says o k (stage_in x) c.args.line b c.in-Ok.command d.faultless d.written ∙ ap (λ z. answered o p z m) c.in-Show.is in
-    subst (Adds c.args.said.now.items c.push-in-Show.new.self.items) (sym e)
-    (adds_one c.args.said.now.items c.push-in-Show.new.self.items c.in_ok-shown-in-Show.shown (show o p m) c.in_ok-push-in-Show.ensures.items c.in_ok-shown-in-Show.ensures)
+    subst (λ z. OnOk c.show.result (Adds c.args.report.now c.show.new.report z)) (sym e) c.show.ensures
 
 pub returns-in_default : goal.returns-in_default
 returns-in_default c =
     let x = c.args.self.now in
     let o = x.settings.now in
     let m = (stage_in x).machine in
-    let s = c.args.said.now.items in
+    let s = c.args.report.now in
     let p = c.in-Ok.command.post in
     let k : Line = record { bytes = c.args.unit.bytes.now; ending = c.args.unit.ending } in
     let b = sym c.is_blank.ensures ∙ c.if-is_blank.false in
