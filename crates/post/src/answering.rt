@@ -25,13 +25,13 @@ fn hear(post: Post, settings: &Settings, unit: Unit<'_>) -> Result<(Post, Reply)
 fn obey_order(post: Post, settings: &Settings, order: PostOrder) -> (Post, Reply)
     ensures { result ≡ obeyed settings.now post (post_what order) }
 {
-    let told = match order {
-        PostOrder::Tick => Told::Tick,
-        PostOrder::ButtonDown => Told::ButtonDown,
-        PostOrder::ButtonUp => Told::ButtonUp,
+    // by the steps themselves: `Post::step` would tell them apart once more, which takes more instructions
+    let (post, act) = match order {
+        PostOrder::Tick => post.tick(settings),
+        PostOrder::ButtonDown => post.press(true),
+        PostOrder::ButtonUp => post.press(false),
         PostOrder::Show => return (post, Reply::Shown(post.counts())),
     };
-    let (post, act) = post.step(told, settings);
     (post, Reply::Acted(act))
 }
 
